@@ -1,0 +1,54 @@
+-- `bits::copy_octets` meets its contract. Assumes nothing.
+use borrow.Author.Needs.{needs}
+use native.Mathlib.Omega.{arith}
+use mathlib.Core.Path.{_≡_, ap, _∙_}
+use Prim.Native.Nat.{ℕ, _+_, _*_, _/_, _-_, _%_, _^_, _≤_}
+use lib.ListN.{drop}
+use lib.Bits.{bitAnd}
+use Rattle.bits.specs.Bits.{bits, copied}
+use Rattle.bits.proofs.Masks.{low3}
+use Rattle.bits.proofs.copy_octets.Statement.{statement}
+use Rattle.bits.proofs.copy_octets.Tie as tie
+use Rattle.bits.proofs.copy_octets.Reads as reads
+use Rattle.bits.proofs.copy_octets.Lts as lts
+use Rattle.bits.proofs.copy_shifted.Reads as copy-shifted-reads
+use Rattle.bits.proofs.copy_whole.Reads as copy-whole-reads
+
+copy-whole-requires : tie.Need-copy-whole-requires
+copy-whole-requires c κs = search needs
+
+copy-shifted-requires : tie.Need-copy-shifted-requires
+copy-shifted-requires c κs =
+    let e = low3 (c .before .before .before .before .args .from) in
+    (omega arith, omega arith, omega arith, omega arith)
+
+same-length : tie.Need-same-length
+same-length c = search needs
+
+returns : tie.Need-returns
+returns c =
+    let a = c .before .before .before .before .before .before .before .args in
+    let e = low3 (c .before .before .before .before .before .before .before .args .from) in
+    let at : 8 * (c .before .before .before .before .before .before .before .args .from / 8) ≡ c .before .before .before .before .before .before .before .args .from = omega arith in
+    c .before .before .copy-whole .ensures ∙ ap (λ (n : ℕ). copied (bits (a .dst .now)) (8 * a .j) (drop n (bits (a .src .now))) (8 * a .m)) at
+
+same-length-2 : tie.Need-same-length-2
+same-length-2 c = search needs
+
+returns-2 : tie.Need-returns-2
+returns-2 c =
+    let a = c .before .before .before .before .before .before .before .args in
+    let e = low3 (c .before .before .before .before .before .before .before .args .from) in
+    let at : 8 * (c .before .before .before .before .before .before .before .args .from / 8) + bitAnd (c .before .before .before .before .before .before .before .args .from) 7 ≡ c .before .before .before .before .before .before .before .args .from = omega arith in
+    c .before .before .copy-shifted .ensures ∙ ap (λ (n : ℕ). copied (bits (a .dst .now)) (8 * a .j) (drop n (bits (a .src .now))) (8 * a .m)) at
+
+pub copy-octets-spec : {M : Type 1} → statement M
+copy-octets-spec =
+    tie.close
+    (tie.spec
+    copy-whole-requires
+    copy-shifted-requires
+    same-length
+    returns
+    same-length-2
+    returns-2)
