@@ -137,7 +137,7 @@ num-unique k v l h e =
     sym (mod-eq-of-lt h) ∙ sym (num-digits k v) ∙ ap (num k) e ∙ num-take k k l (le-refl k)
 
 -- bits past the end are false
-num-zeros : (k m : ℕ) → num k (replicate m false) ≡ 0
+pub num-zeros : (k m : ℕ) → num k (replicate m false) ≡ 0
 unfolding num
 num-zeros zero m = refl
 num-zeros (suc k) zero = refl
@@ -300,6 +300,12 @@ pack-unique d l r o n e =
 pub octets-drop : (m : ℕ) (s : List ℕ) → Octets s → Octets (drop m s)
 octets-drop m s o i = subst (λ (k : ℕ). k < 256) (sym (getD-drop m s i 0)) (o (m + i))
 
+pub octets-take : (m : ℕ) (s : List ℕ) → Octets s → Octets (take m s)
+octets-take zero s o i = zero-lt-suc 255
+octets-take (suc m) [] o i = zero-lt-suc 255
+octets-take (suc m) (x ∷ s) o zero = o 0
+octets-take (suc m) (x ∷ s) o (suc i) = octets-take m s (λ j. o (suc j)) i
+
 pub octets-set : (s : List ℕ) (i y : ℕ) → Octets s → y < 256 → Octets (set s i y)
 octets-set [] i y o h k = o k
 octets-set (x ∷ s) zero y o h zero = h
@@ -450,3 +456,19 @@ put-is src d₀ d₁ d₂ from n at o₀ o₂ hs hd e₁ e₂ =
     ∙ ap₂ (λ (x y : List Bool). x ++ y)
     (ap (λ (i : ℕ). l ++ replicate (8 * octetsFor i - i) false) (sym ll) ∙ sym (bits-pack l)) (sym (bits-drop m d₀))
     ∙ sym (bits-append (pack l) (drop m d₀)))
+
+-- ---- a number written in front, and read again
+
+pub num-front : (k n : ℕ) (l : List Bool) → n < 2 ^ k → num k (digits k n ++ l) ≡ n
+num-front k n l h = num-append k (digits k n) l (omega (arith, length-digits k n)) ∙ num-digits k n ∙ mod-eq-of-lt h
+
+-- k bits that are 0 come first
+pub num-clear : (k : ℕ) (l : List Bool) → num k (replicate k false ++ l) ≡ 0
+num-clear k l = num-append k (replicate k false) l (omega (arith, length-replicate k false)) ∙ num-zeros k k
+
+-- a field within the first m bits
+pub num-within : (k a m : ℕ) (l : List Bool) → a + k ≤ m → num k (drop a (take m l)) ≡ num k (drop a l)
+num-within k zero m l h = num-take k m l (omega arith)
+num-within k (suc a) zero l h = absurd (omega arith)
+num-within k (suc a) (suc m) [] h = refl
+num-within k (suc a) (suc m) (b ∷ l) h = num-within k a m l (omega arith)

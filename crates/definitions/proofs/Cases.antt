@@ -1,0 +1,23 @@
+-- The bench cases hold by computation: both sides are closed. Assumes nothing.
+use mathlib.Core.Path.{refl}
+use mathlib.Core.Bool.{xor}
+use Rattle.bits.specs.Bits.{odd, digits, num, bits, packs, pack}
+use Rattle.parity.specs.Crc.{crc, divide, add}
+use Rattle.definitions.specs.Frames.{known, coreBits, classA, octets, header, layout, frameIn, spareClear, fieldsGood, crcGood}
+use Rattle.definitions.specs.Reading.{readWith, readCall}
+use Rattle.definitions.specs.Cases.{BenchCases}
+
+pub bench-cases : BenchCases
+unfolding odd digits num bits packs pack crc divide add xor known coreBits classA octets header layout frameIn spareClear fieldsGood crcGood readWith readCall
+bench-cases = record {
+  crc-d53 = refl;
+  crc-d52 = refl;
+  crc-d51 = refl;
+  crc-d54 = refl;
+  sid-if1 = refl;
+  first-if2 = refl;
+  first-storage = refl;
+  no-data-storage = refl;
+  spare-storage = refl;
+  reserved-if1 = refl;
+}

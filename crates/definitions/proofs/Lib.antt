@@ -1,0 +1,4 @@
+pub mod Tables
+pub mod Frames
+pub mod Claims
+mod Cases

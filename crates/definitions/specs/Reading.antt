@@ -1,0 +1,78 @@
+-- Reading and building one frame (document 01, "The frame", "Refused because of the input" and "Order").
+use mathlib.Core.Bool.{Bool, true, false, not, _&&_, _||_}
+use mathlib.Core.List.{List, [], _∷_, _++_}
+use Prim.Native.Nat.{ℕ, zero, suc, _-_, _*_}
+use lib.ListN.{length, take, drop}
+use lib.Dec.{eqb, leb}
+use Rattle.bits.specs.Bits.{clear, bits, pack}
+use Rattle.definitions.specs.Outcome.{Outcome, refused, ok, unless, andThen}
+use Rattle.definitions.specs.Frames.{Format, if1, if2, storage, Frame, known, coreBits, octets, coreOctets, layout, typeIn, frameIn, spareClear, fieldsGood, crcGood}
+
+-- the frame at the start of the octets, with how many it takes; a single frame has nothing behind it
+unfoldable pub readWith : Bool → Format → List ℕ → Outcome (Frame × ℕ)
+readWith single f s =
+    let bs : List Bool = bits s in
+    let t : ℕ = typeIn f bs in
+    let n : ℕ = octets f t in
+    let x : Frame = frameIn f bs in
+    unless 1 (leb 1 (length s))
+    (unless 2 (known t)
+    (unless 3 (leb n (length s))
+    (unless 4 (not single || leb (length s) n)
+    (unless 5 (spareClear f bs)
+    (unless 6 (fieldsGood f x)
+    (unless 7 (crcGood f bs)
+    (ok (x, n))))))))
+
+-- in a recording or a viewer, where more frames may follow
+abbrev pub readFrame : Format → List ℕ → Outcome (Frame × ℕ)
+readFrame f s = readWith false f s
+
+abbrev pub formatNumbered : ℕ → Outcome Format
+formatNumbered zero = refused 11
+formatNumbered (suc zero) = ok if1
+formatNumbered (suc (suc zero)) = ok if2
+formatNumbered (suc (suc (suc zero))) = ok storage
+formatNumbered (suc (suc (suc (suc n)))) = refused 11
+
+-- a call that reads one frame, by the format's number, into a buffer of room octets for the packed core; with how many it writes there
+unfoldable pub readCall : ℕ → List ℕ → ℕ → Outcome (Frame × ℕ)
+readCall format s room =
+    andThen (formatNumbered format) (λ f.
+    andThen (readWith true f s) (λ y.
+    let m : ℕ = coreOctets (y .0 .type) in
+    unless 10 (leb m room) (ok (y .0, m))))
+
+-- a buffer after w was written to its front: octets beyond stay
+abbrev pub overwritten : List ℕ → List ℕ → List ℕ
+overwritten w d = w ++ drop (length w) d
+
+-- the core's buffer after a call that reads one frame; a refused call leaves it
+abbrev pub coreAfter : Outcome (Frame × ℕ) → List ℕ → List ℕ
+coreAfter (refused n) d = d
+coreAfter (ok y) d = overwritten (pack (y .0 .core)) d
+
+-- the frame of the numbers and the packed core that a building call is handed
+abbrev pub frameOf : ℕ → ℕ → ℕ → ℕ → List ℕ → Frame
+frameOf t q i r c = record { type = t; quality = q; indication = i; request = r; core = take (coreBits t) (bits c) }
+
+-- a call that builds a frame into room octets: the octets that it writes
+unfoldable pub buildFrame : Format → ℕ → ℕ → ℕ → ℕ → List ℕ → ℕ → Outcome (List ℕ)
+buildFrame f t q i r c room =
+    let x : Frame = frameOf t q i r c in
+    unless 11 (leb t 15 && (leb q 1 && (not (known t) || eqb (length c) (coreOctets t))))
+    (unless 2 (known t)
+    (unless 5 (clear (8 * length c - coreBits t) (drop (coreBits t) (bits c)))
+    (unless 6 (fieldsGood f x)
+    (unless 10 (leb (octets f t) room)
+    (ok (layout f x))))))
+
+-- how many octets a call wrote
+abbrev pub counted : Outcome (List ℕ) → Outcome ℕ
+counted (refused n) = refused n
+counted (ok w) = ok (length w)
+
+-- the output buffer after it; a refused call leaves it
+abbrev pub outputAfter : Outcome (List ℕ) → List ℕ → List ℕ
+outputAfter (refused n) d = d
+outputAfter (ok w) d = overwritten w d

@@ -1,0 +1,37 @@
+// The paper in antt: what a frame is, and how it is read and built. The definitions that every contract above cites are in specs/,
+// in document 01's order, and their theorems in proofs/. The functions here compute nothing: each carries a theorem as its contract,
+// so that none can go unseen.
+ghost use mathlib.Core.Bool.{true};
+ghost use Rattle.definitions.specs.Reading.{readFrame, readWith, buildFrame};
+ghost use Rattle.definitions.specs.Claims.{ReadsFrames, ReadsOneFrame, WrongReaders, LayoutsDiffer, BuildsFrames};
+ghost use Rattle.definitions.specs.Cases.{BenchCases};
+
+// Demand 2 for a frame that is read where more may follow, and what is no such reader.
+pub fn reader_claim()
+    ensures { λ _. ⌜ ReadsFrames readFrame × WrongReaders ⌝ }
+{
+}
+
+// Demand 2 for a call that reads one frame.
+pub fn single_reader_claim()
+    ensures { λ _. ⌜ ReadsOneFrame (readWith true) ⌝ }
+{
+}
+
+// Layouts are prefix-free, and so injective.
+pub fn layout_claim()
+    ensures { λ _. ⌜ LayoutsDiffer ⌝ }
+{
+}
+
+// Demand 2 for a call that builds a frame.
+pub fn builder_claim()
+    ensures { λ _. ⌜ BuildsFrames buildFrame ⌝ }
+{
+}
+
+// Document 01's bench cases that are marked P.
+pub fn bench_claim()
+    ensures { λ _. ⌜ BenchCases ⌝ }
+{
+}
