@@ -280,6 +280,13 @@ pub bits-pack : (l : List Bool) → bits (pack l) ≡ l ++ replicate (8 * ((leng
 unfolding pack
 bits-pack l = bits-packs ((length l + 7) / 8) l (omega arith)
 
+-- and come first
+pub take-packed : (l : List Bool) (rest : List ℕ) → take (length l) (bits (pack l ++ rest)) ≡ l
+take-packed l rest =
+    let r : List Bool = replicate (8 * octetsFor (length l) - length l) false in
+    ap (take (length l)) (bits-append (pack l) rest ∙ ap (λ (b : List Bool). b ++ bits rest) (bits-pack l) ∙ append-assoc l r (bits rest))
+    ∙ take-at l (r ++ bits rest) (length l) refl
+
 packs-octets : (m : ℕ) (l : List Bool) → Octets (packs m l)
 unfolding packs
 packs-octets zero l i = zero-lt-suc 255

@@ -2,13 +2,13 @@
 use mathlib.Core.Path.{refl}
 use mathlib.Core.Bool.{xor}
 use Rattle.bits.specs.Bits.{odd, digits, num, bits, packs, pack}
-use Rattle.parity.specs.Crc.{crc, divide, add}
+use Rattle.parity.specs.Crc.{crc, divide, addFront}
 use Rattle.definitions.specs.Frames.{known, coreBits, classA, octets, header, layout, frameIn, spareClear, fieldsGood, crcGood}
 use Rattle.definitions.specs.Reading.{readWith, readCall}
 use Rattle.definitions.specs.Cases.{BenchCases}
 
 pub bench-cases : BenchCases
-unfolding odd digits num bits packs pack crc divide add xor known coreBits classA octets header layout frameIn spareClear fieldsGood crcGood readWith readCall
+unfolding odd digits num bits packs pack crc divide addFront xor known coreBits classA octets header layout frameIn spareClear fieldsGood crcGood readWith readCall
 bench-cases = record {
   crc-d53 = refl;
   crc-d52 = refl;

@@ -15,9 +15,9 @@ use Rattle.bits.specs.Bits.{digits, num, clear, bits, pack, octetsFor, Octets}
 use Rattle.bits.proofs.BitLaws.{length-digits, num-lt, num-front, num-clear, num-zero, num-append, digits-num-le, length-bits, bits-append, bits-take, bits-pack, length-pack, pack-octets, pack-unique, octets-take}
 use Rattle.bits.proofs.Tests.{and-left, and-right, both, or-left, or-right, or-else, given}
 use Rattle.parity.specs.Crc.{crc}
-use Rattle.parity.proofs.Guarded.{length-crc}
+use Rattle.parity.proofs.Register.{length-crc}
 use Rattle.definitions.specs.Outcome.{Outcome, refused, ok, unless}
-use Rattle.definitions.specs.Frames.{Format, if1, if2, storage, Frame, known, coreBits, classA, octets, carriesModes, modesAndCrc, header, layout, headerBits, typeIn, qualityIn, coreIn, frameIn, fillBits, fillClear, spareClear, sidModeGood, fieldsGood, crcGood}
+use Rattle.definitions.specs.Frames.{Format, if1, if2, storage, Frame, known, coreBits, classA, octets, carriesModes, modesAndCrc, header, layout, headerBits, spareBefore, spareAfter, typeIn, qualityIn, coreIn, frameIn, fillBits, fillClear, spareClear, sidGood, fieldsGood, crcGood}
 use Rattle.definitions.specs.Reading.{readWith, readFrame}
 use Rattle.definitions.specs.Claims.{Valid, Begins}
 use Rattle.definitions.proofs.Tables.{known-below, Sized, sized, class-a-within, no-core}
@@ -38,7 +38,7 @@ unfolding fieldsGood
 fields-good f x h =
     let h₁ = and-right (leb (x .indication) 8) _ h in
     let h₂ = and-right (leb (x .request) 8) _ h₁ in
-    let h₃ = and-left _ _ (and-right (not (eqb (x .type) 9) || eqb (x .indication) 0) _ h₂) in
+    let h₃ = and-right (sidGood (x .type) (x .indication) (num 4 (drop 36 (x .core)))) _ h₂ in
     record {
       indication = leb-true _ _ (and-left _ _ h);
       request = leb-true _ _ (and-left _ _ h₁);
@@ -136,12 +136,17 @@ fill-clear f x z v =
     ap (λ t. fillClear f t (laid f x r)) (type-laid f x r (known-below _ (v .type-known)))
     ∙ eq-eqb _ 0 (ap (num (fillBits f (x .type))) (fill-laid f x r v) ∙ num-clear (fillBits f (x .type)) z)
 
+spares-laid : (f : Format) (x : Frame) (z : List Bool) → (num (spareBefore f) (laid f x z) ≡ 0) × (num (spareAfter f) (drop (spareBefore f + 5) (laid f x z)) ≡ 0)
+unfolding header digits
+spares-laid if1 x z = (num-front 0 0 (laid if1 x z) (omega arith), num-front 3 0 _ (omega arith))
+spares-laid if2 x z = (num-front 0 0 (laid if2 x z) (omega arith), num-front 0 0 (drop 5 (laid if2 x z)) (omega arith))
+spares-laid storage x z = (num-front 1 0 _ (omega arith), num-front 2 0 _ (omega arith))
+
 spare-laid : (f : Format) (x : Frame) (z : List Bool) → Valid f x → spareClear f (laid f x (replicate (fillBits f (x .type)) false ++ z)) ≡ true
-unfolding spareClear header digits
-spare-laid if1 x z v = both _ _ (eq-eqb _ 0 (num-front 3 0 _ (omega arith))) (fill-clear if1 x z v)
-spare-laid if2 x z v = fill-clear if2 x z v
-spare-laid storage x z v =
-    both _ _ (eq-eqb _ 0 (num-front 1 0 _ (omega arith))) (both _ _ (eq-eqb _ 0 (num-front 2 0 _ (omega arith))) (fill-clear storage x z v))
+unfolding spareClear
+spare-laid f x z v =
+    let p = spares-laid f x (replicate (fillBits f (x .type)) false ++ z) in
+    both _ _ (eq-eqb _ 0 (p .0)) (both _ _ (eq-eqb _ 0 (p .1)) (fill-clear f x z v))
 
 crc-modes : (b : Bool) (x : Frame) (z : List Bool)
     → (not b || eqb (num 8 (drop 8 (modes b x z))) (num 8 (crc (take (classA (x .type)) (x .core))))) ≡ true
@@ -243,7 +248,7 @@ module _ (bs : List Bool) where
 header-again : (f : Format) (bs : List Bool) → headerBits f (typeIn f bs) ≤ length bs → spareClear f bs ≡ true → crcGood f bs ≡ true
     → header f (frameIn f bs) ≡ take (headerBits f (typeIn f bs)) bs
 unfolding header spareClear frameIn
-header-again if1 bs l s c = if1-again bs (leb (num 4 bs) 9) refl l (and-left _ _ s) c
+header-again if1 bs l s c = if1-again bs (leb (num 4 bs) 9) refl l (and-left _ _ (and-right (clear 0 bs) _ s)) c
 header-again if2 bs l s c = field-then 0 4 1 bs _ (omega arith) (digits-num-le 1 (drop 4 bs) (omega (arith, length-drop 4 bs)))
 header-again storage bs l s c =
     clear-then 0 1 7 bs _ (omega arith) (and-left _ _ s) (field-then 1 4 3 bs _ (omega arith) (field-then 5 1 2 bs _ (omega arith)
@@ -251,18 +256,11 @@ header-again storage bs l s c =
 
 fill-again : (f : Format) (bs : List Bool) → spareClear f bs ≡ true → fillClear f (typeIn f bs) bs ≡ true
 unfolding spareClear
-fill-again if1 bs s = and-right (clear 3 (drop 5 bs)) _ s
-fill-again if2 bs s = s
-fill-again storage bs s = and-right (clear 2 (drop 6 bs)) _ (and-right (clear 1 bs) _ s)
+fill-again f bs s = and-right (clear (spareAfter f) (drop (spareBefore f + 5) bs)) _ (and-right (clear (spareBefore f) bs) _ s)
 
-type-frame : (f : Format) (bs : List Bool) → frameIn f bs .type ≡ typeIn f bs
+pub type-frame : (f : Format) (bs : List Bool) → frameIn f bs .type ≡ typeIn f bs
 unfolding frameIn
 type-frame f bs = refl
-
-quality-below : (f : Format) (bs : List Bool) → qualityIn f bs < 2
-quality-below if1 bs = num-lt 1 (drop 4 bs)
-quality-below if2 bs = num-lt 1 (drop 4 bs)
-quality-below storage bs = num-lt 1 (drop 5 bs)
 
 -- the octets s begin with a frame of type t that passes the tests 2, 3, 5, 6 and 7
 module _ (f : Format) (s : List ℕ) (o : Octets s) (k : known (typeIn f (bits s)) ≡ true) (enough : octets f (typeIn f (bits s)) ≤ length s)
@@ -279,7 +277,7 @@ module _ (f : Format) (s : List ℕ) (o : Octets s) (k : known (typeIn f (bits s
   unfolding frameIn
   frame-valid = record {
     type-known = k;
-    quality-bit = omega (arith, quality-below f (bits s));
+    quality-bit = omega (arith, num-lt 1 (drop (spareBefore f + 4) (bits s)));
     core-length = core-size;
     fields-good = fields;
   }
@@ -328,6 +326,23 @@ passed true true true false b₅ b₆ b₇ a y h = never 4 y h
 passed true true true true false b₆ b₇ a y h = never 5 y h
 passed true true true true true false b₇ a y h = never 6 y h
 passed true true true true true true false a y h = never 7 y h
+
+-- what is shown has a known type, and all its octets are there
+pub read-known : (single : Bool) (f : Format) (s : List ℕ) (x : Frame) (n : ℕ) → readWith single f s ≡ ok (x, n)
+    → (known (x .type) ≡ true) × (octets f (x .type) ≤ length s) × (n ≡ octets f (x .type))
+unfolding readWith
+read-known single f s x n h =
+    let bs = bits s in
+    let t = typeIn f bs in
+    let r =
+    passed (leb 1 (length s)) (known t) (leb (octets f t) (length s)) (not single || leb (length s) (octets f t)) (spareClear f bs) (fieldsGood f (frameIn f bs)) (crcGood f bs)
+    (frameIn f bs, octets f t) (x, n) h in
+    let same : typeIn f (bits s) ≡ x .type = sym (type-frame f bs) ∙ ap (λ (y : Frame × ℕ). y .0 .type) (r .6) in
+    (
+      ap known (sym same) ∙ r .0,
+      subst (λ u. octets f u ≤ length s) same (leb-true _ _ (r .1)),
+      sym (ap (λ (y : Frame × ℕ). y .1) (r .6)) ∙ ap (octets f) same,
+    )
 
 -- what is read is laid out again
 pub read-begins : (single : Bool) (f : Format) (s : List ℕ) (x : Frame) (n : ℕ) → Octets s → readWith single f s ≡ ok (x, n)

@@ -107,15 +107,22 @@ headerBits if1 t = cond (leb t 9) 24 8
 headerBits if2 t = 5
 headerBits storage t = 8
 
+-- spare bits in front of the type, and behind the quality
+abbrev pub spareBefore : Format → ℕ
+spareBefore if1 = 0
+spareBefore if2 = 0
+spareBefore storage = 1
+
+abbrev pub spareAfter : Format → ℕ
+spareAfter if1 = 3
+spareAfter if2 = 0
+spareAfter storage = 2
+
 abbrev pub typeIn : Format → List Bool → ℕ
-typeIn if1 bs = num 4 bs
-typeIn if2 bs = num 4 bs
-typeIn storage bs = num 4 (drop 1 bs)
+typeIn f bs = num 4 (drop (spareBefore f) bs)
 
 abbrev pub qualityIn : Format → List Bool → ℕ
-qualityIn if1 bs = num 1 (drop 4 bs)
-qualityIn if2 bs = num 1 (drop 4 bs)
-qualityIn storage bs = num 1 (drop 5 bs)
+qualityIn f bs = num 1 (drop (spareBefore f + 4) bs)
 
 abbrev pub coreIn : Format → ℕ → List Bool → List Bool
 coreIn f t bs = take (coreBits t) (drop (headerBits f t) bs)
@@ -141,21 +148,22 @@ fillClear f t bs = clear (fillBits f t) (drop (headerBits f t + coreBits t) bs)
 
 -- refusal 5
 unfoldable pub spareClear : Format → List Bool → Bool
-spareClear if1 bs = clear 3 (drop 5 bs) && fillClear if1 (typeIn if1 bs) bs
-spareClear if2 bs = fillClear if2 (typeIn if2 bs) bs
-spareClear storage bs = clear 1 bs && (clear 2 (drop 6 bs) && fillClear storage (typeIn storage bs) bs)
+spareClear f bs = clear (spareBefore f) bs && (clear (spareAfter f) (drop (spareBefore f + 5) bs) && fillClear f (typeIn f bs) bs)
 
--- a SID frame's mode, d(36..39), is 0 to 8
-abbrev pub sidModeGood : Frame → Bool
-sidModeGood x = not (eqb (x .type) 9) || leb (num 4 (drop 36 (x .core))) 8
+-- a SID frame's indication is 0, and its mode, d(36..39), is 0 to 8
+abbrev pub sidGood : ℕ → ℕ → ℕ → Bool
+sidGood t indication mode = not (eqb t 9) || (eqb indication 0 && leb mode 8)
 
--- refusal 6: modes are 0 to 8; a SID frame's indication is 0; a field that the frame does not carry is 0
+-- a field that the frame does not carry is 0
+abbrev pub uncarriedZero : Format → ℕ → ℕ → ℕ → Bool
+uncarriedZero f t indication request = carriesModes f t || (eqb indication 0 && eqb request 0)
+
+-- refusal 6
 unfoldable pub fieldsGood : Format → Frame → Bool
 fieldsGood f x =
     leb (x .indication) 8
     && (leb (x .request) 8
-    && ((not (eqb (x .type) 9) || eqb (x .indication) 0)
-    && ((carriesModes f (x .type) || (eqb (x .indication) 0 && eqb (x .request) 0)) && sidModeGood x)))
+    && (sidGood (x .type) (x .indication) (num 4 (drop 36 (x .core))) && uncarriedZero f (x .type) (x .indication) (x .request)))
 
 -- refusal 7, at either quality
 unfoldable pub crcGood : Format → List Bool → Bool

@@ -35,13 +35,13 @@ formatNumbered (suc (suc zero)) = ok if2
 formatNumbered (suc (suc (suc zero))) = ok storage
 formatNumbered (suc (suc (suc (suc n)))) = refused 11
 
--- a call that reads one frame, by the format's number, into a buffer of room octets for the packed core; with how many it writes there
+-- a frame whose packed core goes into a buffer of room octets, with how many it takes there
+abbrev pub intoBuffer : Frame → ℕ → Outcome (Frame × ℕ)
+intoBuffer x room = unless 10 (leb (coreOctets (x .type)) room) (ok (x, coreOctets (x .type)))
+
+-- a call that reads one frame, by the format's number
 unfoldable pub readCall : ℕ → List ℕ → ℕ → Outcome (Frame × ℕ)
-readCall format s room =
-    andThen (formatNumbered format) (λ f.
-    andThen (readWith true f s) (λ y.
-    let m : ℕ = coreOctets (y .0 .type) in
-    unless 10 (leb m room) (ok (y .0, m))))
+readCall format s room = andThen (formatNumbered format) (λ f. andThen (readWith true f s) (λ y. intoBuffer (y .0) room))
 
 -- a buffer after w was written to its front: octets beyond stay
 abbrev pub overwritten : List ℕ → List ℕ → List ℕ

@@ -1,24 +1,55 @@
-use mathlib.Core.Path.{_≡_, refl, sym, ap, _∙_}
-use mathlib.Core.Bool.{Bool, true, false}
-use mathlib.Core.List.{List, [], _∷_, _++_}
-use Prim.Native.Nat.{ℕ, zero, suc, _+_, _≤_}
+-- The CRC over what a frame holds, the bits of its core and its CRC octet: an octet is the number of the CRC exactly when its
+-- digits are the CRC, so what `Detects` says of words it says of frames. Assumes nothing.
+use mathlib.Core.Path.{_≡_, sym, ap, ap₂, _∙_}
+use mathlib.Core.Logic.{_≢_, _⊎_, ⊎-elim}
+use mathlib.Core.Bool.{Bool}
+use mathlib.Core.List.{List}
+use Prim.Native.Nat.{ℕ, _+_, _≤_, _<_}
 use native.Mathlib.Omega.{arith}
-use lib.ListN.{length, replicate, length-append, length-replicate}
-use Rattle.parity.specs.Crc.{add, lower, divide, crc}
+use lib.ListN.{length, take, drop, length-append}
+use lib.Seq.{take-all, take-at, drop-at, length-take-le}
+use Rattle.bits.specs.Bits.{digits, num}
+use Rattle.bits.proofs.BitLaws.{length-digits, digits-num-le, num-unique}
+use Rattle.parity.specs.Crc.{crc}
+use Rattle.parity.specs.Places.{differences, countTrue, firstTrue, lastTrue, guarded}
+use Rattle.parity.proofs.Register.{length-crc}
+use Rattle.parity.proofs.Detect.{detects}
 
-length-add : (g p : List Bool) → length (add g p) ≡ length p
-unfolding add
-length-add [] p = refl
-length-add (y ∷ g) [] = refl
-length-add (y ∷ g) (b ∷ p) = ap suc (length-add g p)
+whole : (m : List Bool) → take 8 (crc m) ≡ crc m
+whole m = take-all 8 (crc m) (omega (arith, length-crc m))
 
-length-divide : (n : ℕ) (p : List Bool) → n ≤ length p → length (divide n p) + n ≡ length p
-unfolding divide
-length-divide zero p h = omega arith
-length-divide (suc n) [] h = absurd (omega arith)
-length-divide (suc n) (false ∷ p) h = omega (arith, length-divide n p (omega arith))
-length-divide (suc n) (true ∷ p) h = omega (arith, length-add lower p, length-divide n (add lower p) (omega (arith, length-add lower p)))
+pub octet-bits : (m : List Bool) (c : ℕ) → c ≡ num 8 (crc m) → digits 8 c ≡ crc m
+octet-bits m c e = ap (digits 8) e ∙ digits-num-le 8 (crc m) (omega (arith, length-crc m)) ∙ whole m
 
-pub length-crc : (m : List Bool) → length (crc m) ≡ 8
-unfolding crc
-length-crc m = omega (arith, length-append m (replicate 8 false), length-divide (length m) (m ++ replicate 8 false) (omega (arith, length-append m (replicate 8 false))))
+pub bits-octet : (m : List Bool) (c : ℕ) → c < 256 → digits 8 c ≡ crc m → c ≡ num 8 (crc m)
+bits-octet m c h e = num-unique 8 c (crc m) h (e ∙ sym (whole m))
+
+module _ (n : ℕ) (d : List Bool) (c : ℕ) (h : n ≤ length d) where
+  length-guarded : length (guarded n d c) ≡ n + 8
+  length-guarded = length-append (take n d) (digits 8 c) ∙ ap₂ _+_ (length-take-le n d h) (length-digits 8 c)
+
+  -- the CRC octet of a frame is right exactly when the word is one that `Detects` speaks of
+  guarded-right : c ≡ num 8 (crc (take n d)) → drop n (guarded n d c) ≡ crc (take n (guarded n d c))
+  guarded-right e =
+      drop-at (take n d) (digits 8 c) n (length-take-le n d h)
+      ∙ octet-bits (take n d) c e ∙ ap crc (sym (take-at (take n d) (digits 8 c) n (length-take-le n d h)))
+
+-- Two frames with n Class A bits and right CRC octets: where the guarded bits differ at all, they differ in at least three
+-- places, of which the last is at least eight after the first
+pub frames-differ : (n : ℕ) (d d′ : List Bool) (c c′ : ℕ) → n ≤ 247 → n ≤ length d → n ≤ length d′
+    → c ≡ num 8 (crc (take n d)) → c′ ≡ num 8 (crc (take n d′)) → guarded n d c ≢ guarded n d′ c′
+    → (3 ≤ countTrue (differences (guarded n d c) (guarded n d′ c′)))
+    × (firstTrue (differences (guarded n d c) (guarded n d′ c′)) + 8 ≤ lastTrue (differences (guarded n d c) (guarded n d′ c′)))
+frames-differ n d d′ c c′ h l l′ e e′ =
+    detects .differ n (guarded n d c) (guarded n d′ c′) h (length-guarded n d c l) (length-guarded n d′ c′ l′) (guarded-right n d c l e) (guarded-right n d′ c′ l′ e′)
+
+-- So a frame that differs from one with a right CRC octet in one or two of those places, or in places that fit in eight
+-- neighbouring ones, has a wrong CRC octet
+pub frame-refused : (n : ℕ) (d d′ : List Bool) (c c′ : ℕ) → n ≤ 247 → n ≤ length d → n ≤ length d′
+    → c ≡ num 8 (crc (take n d)) → guarded n d c ≢ guarded n d′ c′
+    → (countTrue (differences (guarded n d c) (guarded n d′ c′)) ≤ 2)
+    ⊎ (lastTrue (differences (guarded n d c) (guarded n d′ c′)) ≤ firstTrue (differences (guarded n d c) (guarded n d′ c′)) + 7)
+    → c′ ≢ num 8 (crc (take n d′))
+frame-refused n d d′ c c′ h l l′ e ne few e′ =
+    let p = frames-differ n d d′ c c′ h l l′ e e′ ne in
+    ⊎-elim (λ z. omega arith) (λ z. omega arith) few

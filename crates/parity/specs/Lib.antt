@@ -1,1 +1,3 @@
 pub mod Crc
+pub mod Places
+pub mod Claims

@@ -1,0 +1,3 @@
+mod Types
+mod ReaderLaws
+mod CallLaws

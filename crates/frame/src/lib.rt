@@ -1,0 +1,62 @@
+// One frame: read from octets and built into octets, in IF1, IF2 and storage format. The entries are `reader::read_frame`,
+// `builder::build_if1`, `build_if2`, `build_storage` and `reception::reception_class`; the other public functions are `pub` for the
+// crates above, which scan and convert recordings. What an answer means is said in specs/Answers.antt, the frame in `definitions`.
+pub mod builder;
+pub mod reader;
+pub mod reception;
+pub mod table;
+
+// Document 01's formats 1, 2 and 3.
+pub enum Format {
+    If1,
+    If2,
+    Storage,
+}
+
+// The format that a number names, if it is 1, 2 or 3.
+pub enum FormatFound {
+    Is(Format),
+    Unknown,
+}
+
+// Why a call refuses, in the order of document 01's numbers 1 to 17.
+pub enum Refusal {
+    NoOctets,
+    ReservedType,
+    TooShort,
+    OctetsAfter,
+    SpareBit,
+    FieldRange,
+    CrcMismatch,
+    StorageHeader,
+    TooLong,
+    OutputShort,
+    ArgumentRange,
+    NoCodecOrder,
+    FqcReserved,
+    NoSet,
+    SetPresent,
+    NotInSet,
+    SubflowBuffer,
+}
+
+// A frame's fields but for the core.
+pub struct FrameHeader {
+    pub frame_type: u8,
+    pub quality: u8,
+    pub indication: u8,
+    pub request: u8,
+}
+
+// A frame with a count of octets, or the refusal. The count is that of the frame's octets where more may follow, and that of the
+// packed core in the buffer where one frame is read.
+pub enum Reading {
+    Frame(FrameHeader, usize),
+    Refused(Refusal),
+}
+
+// How many octets were written, or the refusal.
+pub enum Built {
+    Octets(usize),
+    Refused(Refusal),
+}
