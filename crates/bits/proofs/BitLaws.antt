@@ -325,6 +325,17 @@ octets-append [] t os ot i = ot i
 octets-append (x ∷ s) t os ot zero = os 0
 octets-append (x ∷ s) t os ot (suc i) = octets-append s t (λ k. os (suc k)) ot i
 
+-- bits that fill whole octets are packed by themselves
+pub pack-append : (l m : List Bool) (k : ℕ) → length l ≡ 8 * k → pack (l ++ m) ≡ pack l ++ pack m
+pack-append l m k h =
+    let none : 8 * octetsFor (length l) - length l ≡ 0 = omega arith in
+    let whole : bits (pack l) ≡ l = bits-pack l ∙ ap (λ (n : ℕ). l ++ replicate n false) none ∙ append-nil l in
+    let n : length (l ++ m) ≡ length l + length m = length-append l m in
+    let r : ℕ = 8 * octetsFor (length m) - length m in
+    sym (pack-unique (pack l ++ pack m) (l ++ m) r (octets-append (pack l) (pack m) (pack-octets l) (pack-octets m))
+    (length-append (pack l) (pack m) ∙ omega (arith, length-pack l, length-pack m))
+    (bits-append (pack l) (pack m) ∙ ap₂ (λ (x y : List Bool). x ++ y) whole (bits-pack m) ∙ sym (append-assoc l m (replicate r false))))
+
 -- ---- a field of an octet of a list, read and written
 
 -- of n digits and what follows them: the field of k digits that lie below a others and above b others

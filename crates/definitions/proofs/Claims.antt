@@ -13,9 +13,9 @@ use borrow.Author.Tests.{leb-true, le-leb, eqb-true, eq-eqb}
 use Rattle.bits.specs.Bits.{num, clear, bits, pack, octetsFor, Octets}
 use Rattle.bits.proofs.BitLaws.{num-clear, num-zero, length-bits, bits-pack, length-pack, pack-octets, pack-unique, octets-append}
 use Rattle.bits.proofs.Tests.{and-left, and-right, both, or-right, given}
-use Rattle.definitions.specs.Outcome.{Outcome, refused, ok, unless}
+use Rattle.definitions.specs.Outcome.{Outcome, refused, ok, unless, andThen}
 use Rattle.definitions.specs.Frames.{Format, if1, if2, storage, Frame, known, coreBits, octets, coreOctets, header, layout, fieldsGood}
-use Rattle.definitions.specs.Reading.{readWith, readFrame, frameOf, buildFrame}
+use Rattle.definitions.specs.Reading.{readWith, readFrame, frameOf, buildCheck, buildFrame}
 use Rattle.definitions.specs.Claims.{Valid, Begins, Reader, ReadsFrames, ReadsOneFrame, WrongReaders, LayoutsDiffer, Builder, BuildsFrames}
 use Rattle.definitions.proofs.Tables.{known-below, sized}
 use Rattle.definitions.proofs.Frames.{frame-path, length-layout, never, read-begins, begins-read}
@@ -116,29 +116,57 @@ bits-core core =
       eq-eqb _ 0 (ap₂ num k z ∙ num-clear (8 * octetsFor (length core) - length core) []),
     )
 
-built : {A : Type 0} (b₁ b₂ b₃ b₄ b₅ : Bool) (a w : A) → unless 11 b₁ (unless 2 b₂ (unless 5 b₃ (unless 6 b₄ (unless 10 b₅ (ok a))))) ≡ ok w
-    → (b₁ ≡ true) × (b₂ ≡ true) × (b₃ ≡ true) × (b₄ ≡ true) × (a ≡ w)
-built true true true true true a w h = (refl, refl, refl, refl, cc)
-built false b₂ b₃ b₄ b₅ a w h = never 11 w h
-built true false b₃ b₄ b₅ a w h = never 2 w h
-built true true false b₄ b₅ a w h = never 5 w h
-built true true true false b₅ a w h = never 6 w h
-built true true true true false a w h = never 10 w h
+checked : {A : Type 0} (b₁ b₂ b₃ b₄ b₅ : Bool) (a y : A) → unless 11 b₁ (unless 2 b₂ (unless 5 b₃ (unless 6 b₄ (unless 10 b₅ (ok a))))) ≡ ok y
+    → (b₁ ≡ true) × (b₂ ≡ true) × (b₃ ≡ true) × (b₄ ≡ true) × (b₅ ≡ true) × (a ≡ y)
+checked true true true true true a y h = (refl, refl, refl, refl, refl, cc)
+checked false b₂ b₃ b₄ b₅ a y h = never 11 y h
+checked true false b₃ b₄ b₅ a y h = never 2 y h
+checked true true false b₄ b₅ a y h = never 5 y h
+checked true true true false b₅ a y h = never 6 y h
+checked true true true true false a y h = never 10 y h
+
+-- what a building call has judged when it refuses nothing
+pub record Checked (f : Format) (t q i r : ℕ) (c : List ℕ) (room : ℕ) (y : Frame × ℕ) : Type 0 where
+  pub type-known : known t ≡ true
+  pub quality-bit : q ≤ 1
+  pub core-size : length c ≡ coreOctets t
+  pub fill : clear (8 * length c - coreBits t) (drop (coreBits t) (bits c)) ≡ true
+  pub fields : fieldsGood f (frameOf t q i r c) ≡ true
+  pub space : octets f t ≤ room
+  pub shown : _≡_ {A = Frame × ℕ} (frameOf t q i r c, octets f t) y
+
+pub check-known : (f : Format) (t q i r : ℕ) (c : List ℕ) (room : ℕ) (y : Frame × ℕ) → buildCheck f t q i r c room ≡ ok y → Checked f t q i r c room y
+unfolding buildCheck
+check-known f t q i r c room y h =
+    let x = frameOf t q i r c in
+    let p =
+    checked (leb t 15 && (leb q 1 && (not (known t) || eqb (length c) (coreOctets t)))) (known t) (clear (8 * length c - coreBits t) (drop (coreBits t) (bits c)))
+    (fieldsGood f x) (leb (octets f t) room) (x, octets f t) y h in
+    let q₁ = and-right (leb t 15) _ (p .0) in
+    record {
+      type-known = p .1;
+      quality-bit = leb-true _ _ (and-left _ _ q₁);
+      core-size = eqb-true _ _ (given (known t) _ (and-right (leb q 1) _ q₁) (p .1));
+      fill = p .2;
+      fields = p .3;
+      space = leb-true _ _ (p .4);
+      shown = p .5;
+    }
+
+laid-out : (f : Format) (o : Outcome (Frame × ℕ)) (w : List ℕ) → andThen o (λ y. ok (layout f (y .0))) ≡ ok w
+    → (y : Frame × ℕ) × (o ≡ ok y) × (layout f (y .0) ≡ w)
+laid-out f (refused n) w h = never n w h
+laid-out f (ok y) w h = (y, refl, cc)
 
 build-sound : (f : Format) (t q i r : ℕ) (c : List ℕ) (room : ℕ) (w : List ℕ) → Octets c → buildFrame f t q i r c room ≡ ok w
     → Valid f (frameOf t q i r c) × (w ≡ layout f (frameOf t q i r c)) × (c ≡ pack (frameOf t q i r c .core))
-unfolding buildFrame
 build-sound f t q i r c room w o h =
-    let x = frameOf t q i r c in
-    let p =
-    built (leb t 15 && (leb q 1 && (not (known t) || eqb (length c) (coreOctets t)))) (known t) (clear (8 * length c - coreBits t) (drop (coreBits t) (bits c)))
-    (fieldsGood f x) (leb (octets f t) room) (layout f x) w h in
-    let q₁ = and-right (leb t 15) _ (p .0) in
-    let l = eqb-true _ _ (given (known t) _ (and-right (leb q 1) _ q₁) (p .1)) in
-    let k = packed-core (coreBits t) c o l (p .2) in
+    let y = laid-out f (buildCheck f t q i r c room) w h in
+    let p = check-known f t q i r c room (y .0) (y .1) in
+    let k = packed-core (coreBits t) c o (p .core-size) (p .fill) in
     (
-      record { type-known = p .1; quality-bit = leb-true _ _ (and-left _ _ q₁); core-length = k .0; fields-good = p .3 },
-      sym (p .4),
+      record { type-known = p .type-known; quality-bit = p .quality-bit; core-length = k .0; fields-good = p .fields },
+      sym (y .2) ∙ ap (λ (z : Frame × ℕ). layout f (z .0)) (sym (p .shown)),
       k .1,
     )
 
@@ -148,7 +176,7 @@ frame-again f x v =
 
 build-complete : (f : Format) (x : Frame) (room : ℕ) → Valid f x → length (layout f x) ≤ room
     → buildFrame f (x .type) (x .quality) (x .indication) (x .request) (pack (x .core)) room ≡ ok (layout f x)
-unfolding buildFrame
+unfolding buildCheck
 build-complete f x room v h =
     let k = v .type-known in
     let t : leb (x .type) 15 ≡ true = le-leb (x .type) 15 (omega (arith, known-below (x .type) k)) in

@@ -173,11 +173,14 @@ crc-laid f x z v =
 
 -- ---- the octets
 
-pub length-layout : (f : Format) (x : Frame) → Valid f x → length (layout f x) ≡ octets f (x .type)
+pub size-layout : (f : Format) (x : Frame) → known (x .type) ≡ true → length (x .core) ≡ coreBits (x .type) → length (layout f x) ≡ octets f (x .type)
 unfolding layout
-length-layout f x v =
+size-layout f x k l =
     length-pack (header f x ++ x .core)
-    ∙ ap octetsFor (length-append (header f x) (x .core) ∙ ap₂ _+_ (length-header f x) (v .core-length)) ∙ sym (sized f (x .type) (v .type-known) .packed)
+    ∙ ap octetsFor (length-append (header f x) (x .core) ∙ ap₂ _+_ (length-header f x) l) ∙ sym (sized f (x .type) k .packed)
+
+pub length-layout : (f : Format) (x : Frame) → Valid f x → length (layout f x) ≡ octets f (x .type)
+length-layout f x v = size-layout f x (v .type-known) (v .core-length)
 
 bits-layout : (f : Format) (x : Frame) (rest : List ℕ) → Valid f x
     → bits (layout f x ++ rest) ≡ laid f x (replicate (fillBits f (x .type)) false ++ bits rest)

@@ -57,3 +57,8 @@ unfolding known coreBits
 no-core t k h =
     let g = given (known t) _ (every-below 16 (λ t. not (known t) || (leb t 9 || eqb (coreBits t) 0)) refl t (known-below t k)) k in
     eqb-true _ _ (rw h at g)
+
+-- the largest core
+pub core-most : (t : ℕ) → known t ≡ true → coreBits t ≤ 477
+unfolding known coreBits
+core-most t k = leb-true _ _ (given (known t) _ (every-below 16 (λ t. not (known t) || leb (coreBits t) 477) refl t (known-below t k)) k)

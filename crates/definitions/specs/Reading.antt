@@ -56,16 +56,20 @@ coreAfter (ok y) d = overwritten (pack (y .0 .core)) d
 abbrev pub frameOf : ℕ → ℕ → ℕ → ℕ → List ℕ → Frame
 frameOf t q i r c = record { type = t; quality = q; indication = i; request = r; core = take (coreBits t) (bits c) }
 
--- a call that builds a frame into room octets: the octets that it writes
-unfoldable pub buildFrame : Format → ℕ → ℕ → ℕ → ℕ → List ℕ → ℕ → Outcome (List ℕ)
-buildFrame f t q i r c room =
+-- the frame that a building call would write into room octets, with how many it takes
+unfoldable pub buildCheck : Format → ℕ → ℕ → ℕ → ℕ → List ℕ → ℕ → Outcome (Frame × ℕ)
+buildCheck f t q i r c room =
     let x : Frame = frameOf t q i r c in
     unless 11 (leb t 15 && (leb q 1 && (not (known t) || eqb (length c) (coreOctets t))))
     (unless 2 (known t)
     (unless 5 (clear (8 * length c - coreBits t) (drop (coreBits t) (bits c)))
     (unless 6 (fieldsGood f x)
     (unless 10 (leb (octets f t) room)
-    (ok (layout f x))))))
+    (ok (x, octets f t))))))
+
+-- a call that builds a frame: the octets that it writes
+abbrev pub buildFrame : Format → ℕ → ℕ → ℕ → ℕ → List ℕ → ℕ → Outcome (List ℕ)
+buildFrame f t q i r c room = andThen (buildCheck f t q i r c room) (λ y. ok (layout f (y .0)))
 
 -- how many octets a call wrote
 abbrev pub counted : Outcome (List ℕ) → Outcome ℕ

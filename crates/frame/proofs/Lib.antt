@@ -1,3 +1,4 @@
 mod Types
 mod ReaderLaws
 mod CallLaws
+mod BuilderLaws
