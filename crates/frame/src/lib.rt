@@ -6,6 +6,9 @@ pub mod reader;
 pub mod reception;
 pub mod table;
 
+ghost use mathlib.Core.Path.{_≡_};
+ghost use Rattle.frame.specs.Answers.{numberOf};
+
 // Document 01's formats 1, 2 and 3.
 pub enum Format {
     If1,
@@ -59,4 +62,29 @@ pub enum Reading {
 pub enum Built {
     Octets(usize),
     Refused(Refusal),
+}
+
+// Document 01's number of a refusal. `pub` for the levels' exports.
+pub fn refusal_number(e: Refusal) -> u64
+    ensures { λ r. ⌜ r ≡ numberOf e ⌝ }
+{
+    match e {
+        Refusal::NoOctets => 1,
+        Refusal::ReservedType => 2,
+        Refusal::TooShort => 3,
+        Refusal::OctetsAfter => 4,
+        Refusal::SpareBit => 5,
+        Refusal::FieldRange => 6,
+        Refusal::CrcMismatch => 7,
+        Refusal::StorageHeader => 8,
+        Refusal::TooLong => 9,
+        Refusal::OutputShort => 10,
+        Refusal::ArgumentRange => 11,
+        Refusal::NoCodecOrder => 12,
+        Refusal::FqcReserved => 13,
+        Refusal::NoSet => 14,
+        Refusal::SetPresent => 15,
+        Refusal::NotInSet => 16,
+        Refusal::SubflowBuffer => 17,
+    }
 }

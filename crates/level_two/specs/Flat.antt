@@ -1,0 +1,69 @@
+-- The answers of the C interface as numbers. Every field that is not named for an answer is 0, and at a refusal every field but its
+-- number is. A refusal of these calls carries frame and octet 0, since they are outside a recording (document 01, "Order").
+use mathlib.Core.Path.{_≡_}
+use mathlib.Core.List.{List}
+use Prim.Native.Nat.{ℕ}
+use Rattle.definitions.specs.Outcome.{Outcome, refused, ok}
+use Rattle.definitions.specs.Frames.{Frame}
+use Rattle.definitions.specs.Reading.{coreAfter, counted, outputAfter}
+use Rattle.definitions.specs.Reception.{SpeechClass, speech-good, speech-bad, SidClass, sid-first, sid-update, sid-bad, Reception, speech, sid, speech-lost, no-data}
+use Rattle.level_two.specs.declared.Answer.{Answer}
+use Rattle.level_two.specs.declared.FrameAnswer.{FrameAnswer}
+use Rattle.level_two.specs.declared.ClassAnswer.{ClassAnswer}
+
+-- octets written
+abbrev pub answerNumbers : Outcome ℕ → Answer
+answerNumbers (refused n) = record { refusal = n; frame = 0; octet = 0; frames = 0; octets = 0 }
+answerNumbers (ok m) = record { refusal = 0; frame = 0; octet = 0; frames = 0; octets = m }
+
+-- the fields, and the octets of the packed core
+abbrev pub frameNumbers : Outcome (Frame × ℕ) → FrameAnswer
+frameNumbers (refused n) = record {
+  refusal = n;
+  frame = 0;
+  octet = 0;
+  «frame_type» = 0;
+  quality = 0;
+  indication = 0;
+  request = 0;
+  «core_octets» = 0;
+}
+frameNumbers (ok y) = record {
+  refusal = 0;
+  frame = 0;
+  octet = 0;
+  «frame_type» = y .0 .type;
+  quality = y .0 .quality;
+  indication = y .0 .indication;
+  request = y .0 .request;
+  «core_octets» = y .1;
+}
+
+abbrev pub speechNumber : SpeechClass → ℕ
+speechNumber speech-good = 1
+speechNumber speech-bad = 2
+
+abbrev pub sidNumber : SidClass → ℕ
+sidNumber sid-first = 3
+sidNumber sid-update = 4
+sidNumber sid-bad = 5
+
+abbrev pub classNumber : Reception → ℕ
+classNumber (speech s) = speechNumber s
+classNumber (sid s) = sidNumber s
+classNumber speech-lost = 6
+classNumber no-data = 7
+
+abbrev pub classNumbers : Outcome Reception → ClassAnswer
+classNumbers (refused n) = record { refusal = n; frame = 0; octet = 0; class = 0 }
+classNumbers (ok c) = record { refusal = 0; frame = 0; octet = 0; class = classNumber c }
+
+-- a call that reads a frame: the answer, and the core's buffer, d₀ before and d after it
+pub record FlatFrame (o : Outcome (Frame × ℕ)) (d₀ d : List ℕ) (r : FrameAnswer) : Type 0 where
+  pub answer : r ≡ frameNumbers o
+  pub buffer : d ≡ coreAfter o d₀
+
+-- a call that builds a frame: the answer, and the output buffer
+pub record FlatOutput (o : Outcome (List ℕ)) (d₀ d : List ℕ) (r : Answer) : Type 0 where
+  pub answer : r ≡ answerNumbers (counted o)
+  pub buffer : d ≡ outputAfter o d₀

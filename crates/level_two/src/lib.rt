@@ -1,0 +1,168 @@
+// Level two's C interface (include/amrwb.h): each function calls one entry and hands its answer on as numbers, as specs/Flat.antt says.
+// Every export is an entry.
+ghost use mathlib.Core.Path.{_≡_};
+ghost use lib.ListN.{length};
+ghost use Rattle.definitions.specs.Frames.{if1, if2, storage};
+ghost use Rattle.definitions.specs.Reading.{readCall, buildFrame};
+ghost use Rattle.definitions.specs.Reception.{receptionClass};
+ghost use Rattle.level_two.specs.Flat.{FlatFrame, FlatOutput, answerNumbers, speechNumber, sidNumber, classNumber, classNumbers};
+ghost use Rattle.frame.specs.Answers.{builtOf};
+ghost use Rattle.frame.specs.Classes.{speechOf, sidOf, receptionOf};
+use frame::reception::{Classified, Reception, SidClass, SpeechClass};
+use frame::{Built, Reading};
+
+#[repr(C)]
+pub struct Answer {
+    pub refusal: u64,
+    pub frame: u64,
+    pub octet: u64,
+    pub frames: u64,
+    pub octets: u64,
+}
+
+#[repr(C)]
+pub struct FrameAnswer {
+    pub refusal: u64,
+    pub frame: u64,
+    pub octet: u64,
+    pub frame_type: u64,
+    pub quality: u64,
+    pub indication: u64,
+    pub request: u64,
+    pub core_octets: u64,
+}
+
+#[repr(C)]
+pub struct ClassAnswer {
+    pub refusal: u64,
+    pub frame: u64,
+    pub octet: u64,
+    pub class: u64,
+}
+
+fn answer_of(b: Built) -> Answer
+    ensures { λ r. ⌜ r ≡ answerNumbers (builtOf b) ⌝ }
+{
+    match b {
+        Built::Octets(n) => Answer {
+            refusal: 0,
+            frame: 0,
+            octet: 0,
+            frames: 0,
+            octets: n as u64,
+        },
+        Built::Refused(e) => Answer {
+            refusal: frame::refusal_number(e),
+            frame: 0,
+            octet: 0,
+            frames: 0,
+            octets: 0,
+        },
+    }
+}
+
+#[no_mangle]
+pub extern "C" fn amrwb_read_frame(format: u64, octets: &[u8], core: &mut [u8]) -> FrameAnswer
+    ensures { λ r. ⌜ FlatFrame (readCall format (now (octets .entry)) (length (now (core .entry)))) (now (core .entry)) (now (core .exit)) r ⌝ }
+{
+    match frame::reader::read_frame(format, octets, core) {
+        Reading::Frame(h, n) => FrameAnswer {
+            refusal: 0,
+            frame: 0,
+            octet: 0,
+            frame_type: h.frame_type as u64,
+            quality: h.quality as u64,
+            indication: h.indication as u64,
+            request: h.request as u64,
+            core_octets: n as u64,
+        },
+        Reading::Refused(e) => FrameAnswer {
+            refusal: frame::refusal_number(e),
+            frame: 0,
+            octet: 0,
+            frame_type: 0,
+            quality: 0,
+            indication: 0,
+            request: 0,
+            core_octets: 0,
+        },
+    }
+}
+
+#[no_mangle]
+pub extern "C" fn amrwb_build_if1(
+    frame_type: u64,
+    quality: u64,
+    indication: u64,
+    request: u64,
+    core: &[u8],
+    out: &mut [u8],
+) -> Answer
+    ensures { λ r. ⌜ FlatOutput (buildFrame if1 «frame_type» quality indication request (now (core .entry)) (length (now (out .entry)))) (now (out .entry)) (now (out .exit)) r ⌝ }
+{
+    answer_of(frame::builder::build_if1(frame_type, quality, indication, request, core, out))
+}
+
+#[no_mangle]
+pub extern "C" fn amrwb_build_if2(frame_type: u64, quality: u64, core: &[u8], out: &mut [u8]) -> Answer
+    ensures { λ r. ⌜ FlatOutput (buildFrame if2 «frame_type» quality 0 0 (now (core .entry)) (length (now (out .entry)))) (now (out .entry)) (now (out .exit)) r ⌝ }
+{
+    answer_of(frame::builder::build_if2(frame_type, quality, core, out))
+}
+
+#[no_mangle]
+pub extern "C" fn amrwb_build_stored(frame_type: u64, quality: u64, core: &[u8], out: &mut [u8]) -> Answer
+    ensures { λ r. ⌜ FlatOutput (buildFrame storage «frame_type» quality 0 0 (now (core .entry)) (length (now (out .entry)))) (now (out .entry)) (now (out .exit)) r ⌝ }
+{
+    answer_of(frame::builder::build_storage(frame_type, quality, core, out))
+}
+
+fn speech_number(s: SpeechClass) -> u64
+    ensures { λ r. ⌜ r ≡ speechNumber (speechOf s) ⌝ }
+{
+    match s {
+        SpeechClass::Good => 1,
+        SpeechClass::Bad => 2,
+    }
+}
+
+fn sid_number(s: SidClass) -> u64
+    ensures { λ r. ⌜ r ≡ sidNumber (sidOf s) ⌝ }
+{
+    match s {
+        SidClass::First => 3,
+        SidClass::Update => 4,
+        SidClass::Bad => 5,
+    }
+}
+
+fn class_number(c: Reception) -> u64
+    ensures { λ r. ⌜ r ≡ classNumber (receptionOf c) ⌝ }
+{
+    match c {
+        Reception::Speech(s) => speech_number(s),
+        Reception::Sid(s) => sid_number(s),
+        Reception::SpeechLost => 6,
+        Reception::NoData => 7,
+    }
+}
+
+#[no_mangle]
+pub extern "C" fn amrwb_class(frame_type: u64, quality: u64, sti: u64) -> ClassAnswer
+    ensures { λ r. ⌜ r ≡ classNumbers (receptionClass «frame_type» quality sti) ⌝ }
+{
+    match frame::reception::reception_class(frame_type, quality, sti) {
+        Classified::Class(c) => ClassAnswer {
+            refusal: 0,
+            frame: 0,
+            octet: 0,
+            class: class_number(c),
+        },
+        Classified::Refused(e) => ClassAnswer {
+            refusal: frame::refusal_number(e),
+            frame: 0,
+            octet: 0,
+            class: 0,
+        },
+    }
+}
