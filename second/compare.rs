@@ -1,0 +1,234 @@
+//! Compares the compiled, proved library with the second program on many calls, valid and damaged: the answer, and every lent octet
+//! (buffers hold a pattern before the call). The first argument is the number of calls, the second the seed.
+mod frame;
+
+#[repr(C)]
+struct Answer {
+    refusal: u64,
+    frame: u64,
+    octet: u64,
+    frames: u64,
+    octets: u64,
+}
+
+#[repr(C)]
+struct FrameAnswer {
+    refusal: u64,
+    frame: u64,
+    octet: u64,
+    ftype: u64,
+    quality: u64,
+    indication: u64,
+    request: u64,
+    core_octets: u64,
+}
+
+#[repr(C)]
+struct ClassAnswer {
+    refusal: u64,
+    frame: u64,
+    octet: u64,
+    class: u64,
+}
+
+#[link(name = "level_two", kind = "static")]
+extern "C" {
+    fn amrwb_read_frame(format: u64, s: *const u8, len: usize, core: *mut u8, core_len: usize) -> FrameAnswer;
+    fn amrwb_build_if1(t: u64, q: u64, i: u64, r: u64, core: *const u8, core_len: usize, out: *mut u8, out_len: usize) -> Answer;
+    fn amrwb_build_if2(t: u64, q: u64, core: *const u8, core_len: usize, out: *mut u8, out_len: usize) -> Answer;
+    fn amrwb_build_stored(t: u64, q: u64, core: *const u8, core_len: usize, out: *mut u8, out_len: usize) -> Answer;
+    fn amrwb_class(t: u64, q: u64, sti: u64) -> ClassAnswer;
+}
+
+struct Random(u64);
+
+impl Random {
+    fn next(&mut self) -> u64 {
+        self.0 ^= self.0 << 13;
+        self.0 ^= self.0 >> 7;
+        self.0 ^= self.0 << 17;
+        self.0
+    }
+    fn below(&mut self, n: u64) -> u64 {
+        (self.next() >> 11) % n
+    }
+    fn one_in(&mut self, n: u64) -> bool {
+        self.below(n) == 0
+    }
+    /// Mostly a number up to most, sometimes one at or beyond a limit.
+    fn number(&mut self, most: u64) -> u64 {
+        if self.one_in(12) {
+            let far = [0, 1, 2, 8, 9, 15, 16, 255, 256, 257, 1 << 32, (1 << 32) + 1, u64::MAX - 1, u64::MAX];
+            far[self.below(far.len() as u64) as usize]
+        } else {
+            self.below(most + 1)
+        }
+    }
+    fn octets(&mut self, n: usize) -> Vec<u8> {
+        (0..n).map(|_| self.next() as u8).collect()
+    }
+}
+
+/// A packed core of a type: mostly with its filling 0 and, of a SID frame, a mode up to 9.
+fn core(g: &mut Random, t: u64) -> Vec<u8> {
+    let k = frame::core_bits(t);
+    let mut c = g.octets((k + 7) / 8);
+    if !g.one_in(10) && k % 8 != 0 {
+        *c.last_mut().unwrap() &= 0xFF << (8 - k % 8);
+    }
+    if t == 9 && !g.one_in(10) {
+        c[4] = c[4] & 0xF0 | g.below(10) as u8;
+    }
+    if g.one_in(12) {
+        let n = c.len() + g.below(3) as usize;
+        c.resize(n.saturating_sub(1), 0);
+    }
+    c
+}
+
+/// How often each answer came: refusal 0 is an accepted call.
+#[derive(Default)]
+struct Tally([u64; 18]);
+
+impl Tally {
+    fn count(&mut self, refusal: u64) {
+        self.0[refusal as usize] += 1;
+    }
+    /// Prints the counts; false where one of the answers never came.
+    fn show(&self, name: &str, all: &[usize]) -> bool {
+        let counts: Vec<String> = all.iter().map(|n| format!("{n}: {}", self.0[*n])).collect();
+        println!("{name} by refusal (0 accepted): {}", counts.join(", "));
+        all.iter().all(|n| self.0[*n] > 0)
+    }
+}
+
+fn pattern(n: usize) -> Vec<u8> {
+    (0..n).map(|i| (i as u8).wrapping_mul(37) ^ 0xA7).collect()
+}
+
+fn compare_read(g: &mut Random, tally: &mut Tally) -> bool {
+    let format = g.number(3);
+    let mut s = if g.one_in(8) {
+        let n = g.below(70) as usize;
+        g.octets(n)
+    } else {
+        let f = if (1..=3).contains(&format) { format } else { 1 + g.below(3) };
+        let t = [0, 1, 2, 3, 4, 5, 6, 7, 8, 9, 14, 15][g.below(12) as usize];
+        let modes = f == 1 && t <= 9;
+        let mut c = frame::bits(&core(g, t));
+        c.resize(frame::core_bits(t), false);
+        let (i, r) = if modes { (g.below(if t == 9 { 2 } else { 10 }), g.below(10)) } else { (0, 0) };
+        frame::layout(f, &frame::Frame { ftype: t, quality: g.below(2), indication: i, request: r, core: c })
+    };
+    match g.below(8) {
+        0 if !s.is_empty() => {
+            let i = g.below(8 * s.len() as u64) as usize;
+            s[i / 8] ^= 128 >> (i % 8);
+        }
+        1 if !s.is_empty() => {
+            let n = g.below(s.len() as u64) as usize;
+            s.truncate(n);
+        }
+        2 => s.push(g.next() as u8),
+        _ => {}
+    }
+    let before = pattern(if g.one_in(4) { g.below(61) as usize } else { 64 });
+    let mut buffer = before.clone();
+    let a = unsafe { amrwb_read_frame(format, s.as_ptr(), s.len(), buffer.as_mut_ptr(), buffer.len()) };
+    let got = [a.refusal, a.frame, a.octet, a.ftype, a.quality, a.indication, a.request, a.core_octets];
+    let mut want_buffer = before.clone();
+    let want = match frame::read(format, &s, before.len()) {
+        Err(n) => [n, 0, 0, 0, 0, 0, 0, 0],
+        Ok(x) => {
+            let p = frame::pack(&x.core);
+            want_buffer[..p.len()].copy_from_slice(&p);
+            [0, 0, 0, x.ftype, x.quality, x.indication, x.request, p.len() as u64]
+        }
+    };
+    tally.count(want[0]);
+    let same = got == want && buffer == want_buffer;
+    if !same {
+        println!("read_frame format {format} octets {s:02X?}: {got:?} and not {want:?}");
+    }
+    same
+}
+
+fn compare_build(g: &mut Random, tally: &mut Tally) -> bool {
+    let format = 1 + g.below(3);
+    let t = g.number(15);
+    let q = g.number(1);
+    let zero = t == 9 || t >= 14;
+    let i = if format != 1 || zero && !g.one_in(6) { 0 } else { g.number(9) };
+    let r = if format != 1 || t >= 14 && !g.one_in(6) { 0 } else { g.number(9) };
+    let c = core(g, t.min(15));
+    let before = pattern(if g.one_in(4) { g.below(64) as usize } else { 70 });
+    let mut out = before.clone();
+    let a = unsafe {
+        match format {
+            1 => amrwb_build_if1(t, q, i, r, c.as_ptr(), c.len(), out.as_mut_ptr(), out.len()),
+            2 => amrwb_build_if2(t, q, c.as_ptr(), c.len(), out.as_mut_ptr(), out.len()),
+            _ => amrwb_build_stored(t, q, c.as_ptr(), c.len(), out.as_mut_ptr(), out.len()),
+        }
+    };
+    let got = [a.refusal, a.frame, a.octet, a.frames, a.octets];
+    let mut want_out = before.clone();
+    let want = match frame::build(format, t, q, i, r, &c, before.len()) {
+        Err(n) => [n, 0, 0, 0, 0],
+        Ok(w) => {
+            want_out[..w.len()].copy_from_slice(&w);
+            [0, 0, 0, 0, w.len() as u64]
+        }
+    };
+    tally.count(want[0]);
+    let same = got == want && out == want_out;
+    if !same {
+        println!("build format {format} type {t} quality {q} indication {i} request {r} core {c:02X?}: {got:?} and not {want:?}");
+    }
+    same
+}
+
+fn compare_class(g: &mut Random, tally: &mut Tally) -> bool {
+    let (t, q, sti) = (g.number(15), g.number(1), g.number(1));
+    let a = unsafe { amrwb_class(t, q, sti) };
+    let got = [a.refusal, a.frame, a.octet, a.class];
+    let want = match frame::class(t, q, sti) {
+        Err(n) => [n, 0, 0, 0],
+        Ok(c) => [0, 0, 0, c],
+    };
+    tally.count(want[0]);
+    if got != want {
+        println!("class {t} {q} {sti}: {got:?} and not {want:?}");
+    }
+    got == want
+}
+
+fn main() {
+    let mut args = std::env::args().skip(1).map(|a| a.parse::<u64>().expect("a number"));
+    let calls = args.next().unwrap_or(100_000);
+    let mut g = Random(args.next().unwrap_or(1).wrapping_mul(0x9E37_79B9_7F4A_7C15) | 1);
+    let (mut reads, mut builds, mut classes) = (Tally::default(), Tally::default(), Tally::default());
+    let mut wrong = 0;
+    for _ in 0..calls {
+        let same = match g.below(8) {
+            0..=3 => compare_read(&mut g, &mut reads),
+            4..=6 => compare_build(&mut g, &mut builds),
+            _ => compare_class(&mut g, &mut classes),
+        };
+        if !same {
+            wrong += 1;
+            if wrong == 10 {
+                break;
+            }
+        }
+    }
+    if wrong > 0 {
+        println!("the library and the second program differ");
+        std::process::exit(1);
+    }
+    let all = reads.show("read", &[0, 1, 2, 3, 4, 5, 6, 7, 10, 11]) & builds.show("build", &[0, 2, 5, 6, 10, 11]) & classes.show("class", &[0, 2, 11]);
+    if !all {
+        println!("some answer never came: the calls are too few");
+        std::process::exit(1);
+    }
+    println!("the library and the second program agree on {calls} calls");
+}
