@@ -1,4 +1,4 @@
 mod Types
-mod ReaderLaws
-mod CallLaws
-mod BuilderLaws
+pub mod TableLaws
+mod FieldLaws
+mod FormatLaws

@@ -1,13 +1,11 @@
 -- What the code's answers say: document 01's number and values for each case of an enum.
 use mathlib.Core.List.{List}
-use mathlib.Core.Bool.{Bool, true}
-use mathlib.Core.Path.{_≡_}
-use Prim.Native.Nat.{ℕ, _+_, _*_, _^_, _<_, _≤_}
-use lib.ListN.{length, take, drop}
+use mathlib.Core.Bool.{Bool}
+use Prim.Native.Nat.{ℕ}
+use lib.ListN.{take}
 use Rattle.bits.specs.Bits.{bits}
 use Rattle.definitions.specs.Outcome.{Outcome, refused, ok}
 use Rattle.definitions.specs.Frames as paper
-use Rattle.definitions.specs.Reading.{coreAfter, counted, outputAfter}
 use Rattle.frame.specs.declared.Format.{Format}
 use Rattle.frame.specs.declared.Format.the-variants.{If1, If2, Storage}
 use Rattle.frame.specs.declared.Refusal.{Refusal}
@@ -62,11 +60,6 @@ abbrev pub readingOf : (ℕ → List Bool) → Reading → Outcome (paper.Frame 
 readingOf core (reading.Frame h n) = ok (frameWith h (core (h .«frame_type»)), n)
 readingOf core (reading.Refused e) = refused (numberOf e)
 
--- a call that reads a frame into a core's buffer, d₀ before and d after it
-pub record IntoBuffer (o : Outcome (paper.Frame × ℕ)) (d₀ d : List ℕ) (r : Reading) : Type 0 where
-  pub answer : readingOf (bufferCore d) r ≡ o
-  pub buffer : d ≡ coreAfter o d₀
-
 abbrev pub foundOf : FormatFound → Outcome paper.Format
 foundOf (Is f) = ok (formatOf f)
 foundOf Unknown = refused 11
@@ -74,22 +67,3 @@ foundOf Unknown = refused 11
 abbrev pub builtOf : Built → Outcome ℕ
 builtOf (built.Octets n) = ok n
 builtOf (built.Refused e) = refused (numberOf e)
-
--- a call that builds into an output buffer, d₀ before and d after it
-pub record IntoOutput (o : Outcome (List ℕ)) (d₀ d : List ℕ) (r : Built) : Type 0 where
-  pub answer : builtOf r ≡ counted o
-  pub buffer : d ≡ outputAfter o d₀
-
--- the frame of a header whose core stands in octets from a bit on
-abbrev pub runFrame : FrameHeader → List ℕ → ℕ → paper.Frame
-runFrame h src from = frameWith h (take (paper.coreBits (h .«frame_type»)) (drop from (bits src)))
-
--- what is asked where a frame is written: its fields have their bits, the core is there, and the output has room
-pub record Writable (f : paper.Format) (h : FrameHeader) (src : List ℕ) (from : ℕ) (out : List ℕ) : Type 0 where
-  pub type-known : paper.known (h .«frame_type») ≡ true
-  pub quality-bit : h .quality < 2
-  pub indication-bits : h .indication < 16
-  pub request-bits : h .request < 16
-  pub core-there : from + paper.coreBits (h .«frame_type») ≤ 8 * length src
-  pub core-near : from + paper.coreBits (h .«frame_type») < 2 ^ 32
-  pub room : paper.octets f (h .«frame_type») ≤ length out

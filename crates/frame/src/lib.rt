@@ -1,13 +1,12 @@
-// One frame: read from octets and built into octets, in IF1, IF2 and storage format. The entries are `reader::read_frame`,
-// `builder::build_if1`, `build_if2`, `build_storage` and `reception::reception_class`; the other public functions are `pub` for the
-// crates above, which scan and convert recordings. What an answer means is said in specs/Answers.antt, the frame in `definitions`.
-pub mod builder;
-pub mod reader;
-pub mod reception;
+// What a frame is to the code: formats, refusals, a frame's fields, the answers, and the table of types. The crates that read, build and
+// classify frames stand above it; its functions are `pub` for them. What an answer means is said in specs/Answers.antt, and what a
+// frame is in `definitions`.
+pub mod fields;
 pub mod table;
 
 ghost use mathlib.Core.Path.{_≡_};
-ghost use Rattle.frame.specs.Answers.{numberOf};
+ghost use Rattle.definitions.specs.Reading.{formatNumbered};
+ghost use Rattle.frame.specs.Answers.{numberOf, foundOf};
 
 // Document 01's formats 1, 2 and 3.
 pub enum Format {
@@ -64,7 +63,19 @@ pub enum Built {
     Refused(Refusal),
 }
 
-// Document 01's number of a refusal. `pub` for the levels' exports.
+// The format of a number.
+pub fn format_numbered(n: u64) -> FormatFound
+    ensures { λ r. ⌜ foundOf r ≡ formatNumbered n ⌝ }
+{
+    match n {
+        1 => FormatFound::Is(Format::If1),
+        2 => FormatFound::Is(Format::If2),
+        3 => FormatFound::Is(Format::Storage),
+        _ => FormatFound::Unknown,
+    }
+}
+
+// Document 01's number of a refusal.
 pub fn refusal_number(e: Refusal) -> u64
     ensures { λ r. ⌜ r ≡ numberOf e ⌝ }
 {

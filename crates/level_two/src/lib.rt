@@ -7,9 +7,9 @@ ghost use Rattle.definitions.specs.Reading.{readCall, buildFrame};
 ghost use Rattle.definitions.specs.Reception.{receptionClass};
 ghost use Rattle.level_two.specs.Flat.{FlatFrame, FlatOutput, answerNumbers, speechNumber, sidNumber, classNumber, classNumbers};
 ghost use Rattle.frame.specs.Answers.{builtOf};
-ghost use Rattle.frame.specs.Classes.{speechOf, sidOf, receptionOf};
-use frame::reception::{Classified, Reception, SidClass, SpeechClass};
+ghost use Rattle.reception.specs.Classes.{speechOf, sidOf, receptionOf};
 use frame::{Built, Reading};
+use reception::{Classified, Reception, SidClass, SpeechClass};
 
 #[repr(C)]
 pub struct Answer {
@@ -65,7 +65,7 @@ fn answer_of(b: Built) -> Answer
 pub extern "C" fn amrwb_read_frame(format: u64, octets: &[u8], core: &mut [u8]) -> FrameAnswer
     ensures { λ r. ⌜ FlatFrame (readCall format (now (octets .entry)) (length (now (core .entry)))) (now (core .entry)) (now (core .exit)) r ⌝ }
 {
-    match frame::reader::read_frame(format, octets, core) {
+    match frame_reader::read_frame(format, octets, core) {
         Reading::Frame(h, n) => FrameAnswer {
             refusal: 0,
             frame: 0,
@@ -100,21 +100,21 @@ pub extern "C" fn amrwb_build_if1(
 ) -> Answer
     ensures { λ r. ⌜ FlatOutput (buildFrame if1 «frame_type» quality indication request (now (core .entry)) (length (now (out .entry)))) (now (out .entry)) (now (out .exit)) r ⌝ }
 {
-    answer_of(frame::builder::build_if1(frame_type, quality, indication, request, core, out))
+    answer_of(frame_builder::build_if1(frame_type, quality, indication, request, core, out))
 }
 
 #[no_mangle]
 pub extern "C" fn amrwb_build_if2(frame_type: u64, quality: u64, core: &[u8], out: &mut [u8]) -> Answer
     ensures { λ r. ⌜ FlatOutput (buildFrame if2 «frame_type» quality 0 0 (now (core .entry)) (length (now (out .entry)))) (now (out .entry)) (now (out .exit)) r ⌝ }
 {
-    answer_of(frame::builder::build_if2(frame_type, quality, core, out))
+    answer_of(frame_builder::build_if2(frame_type, quality, core, out))
 }
 
 #[no_mangle]
 pub extern "C" fn amrwb_build_stored(frame_type: u64, quality: u64, core: &[u8], out: &mut [u8]) -> Answer
     ensures { λ r. ⌜ FlatOutput (buildFrame storage «frame_type» quality 0 0 (now (core .entry)) (length (now (out .entry)))) (now (out .entry)) (now (out .exit)) r ⌝ }
 {
-    answer_of(frame::builder::build_storage(frame_type, quality, core, out))
+    answer_of(frame_builder::build_storage(frame_type, quality, core, out))
 }
 
 fn speech_number(s: SpeechClass) -> u64
@@ -151,7 +151,7 @@ fn class_number(c: Reception) -> u64
 pub extern "C" fn amrwb_class(frame_type: u64, quality: u64, sti: u64) -> ClassAnswer
     ensures { λ r. ⌜ r ≡ classNumbers (receptionClass «frame_type» quality sti) ⌝ }
 {
-    match frame::reception::reception_class(frame_type, quality, sti) {
+    match reception::reception_class(frame_type, quality, sti) {
         Classified::Class(c) => ClassAnswer {
             refusal: 0,
             frame: 0,

@@ -2,7 +2,7 @@
 use borrow.Author.Needs.{needs}
 use mathlib.Core.Path.{sym, ap, _∙_}
 use Rattle.definitions.specs.Outcome.{refused}
-use Rattle.frame.specs.Classes.{classifiedOf}
+use Rattle.reception.specs.Classes.{classifiedOf}
 use Rattle.level_two.specs.declared.ClassAnswer.{ClassAnswer}
 use Rattle.level_two.specs.Flat.{classNumbers}
 use Rattle.level_two.proofs.amrwb_class.Statement.{statement}

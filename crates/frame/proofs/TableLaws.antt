@@ -1,0 +1,62 @@
+-- What the code's table says of a type that is read or given: whether it is reserved, and how its octets are filled. Assumes nothing.
+use mathlib.Core.Path.{_≡_, refl, ap}
+use mathlib.Core.Bool.{Bool, true, false, not, _||_, cond}
+use mathlib.Core.List.{List}
+use Prim.Native.Nat.{ℕ, _+_, _*_, _<_, _≤_}
+use native.Mathlib.Omega.{arith}
+use lib.Dec.{eqb, leb}
+use borrow.Author.Tests.{leb-true, eqb-true}
+use Rattle.bits.proofs.BitLaws.{num-lt}
+use Rattle.bits.proofs.Tests.{given, every-below}
+use Rattle.definitions.specs.Frames.{Format, if1, if2, storage, known, coreBits, octets, carriesModes, headerBits, typeIn}
+use Rattle.definitions.proofs.Tables.{known-below, sized}
+
+-- a type without octets is reserved
+reserved-test : Format → ℕ → Bool
+reserved-test f t = cond (known t) (leb 1 (octets f t)) (eqb (octets f t) 0)
+
+pub type-below : (f : Format) (bs : List Bool) → typeIn f bs < 16
+type-below f bs = num-lt 4 _
+
+octets-known : (f : Format) (t : ℕ) → t < 16 → reserved-test f t ≡ true
+unfolding reserved-test known octets
+octets-known if1 t h = every-below 16 (reserved-test if1) refl t h
+octets-known if2 t h = every-below 16 (reserved-test if2) refl t h
+octets-known storage t h = every-below 16 (reserved-test storage) refl t h
+
+pub no-octets-reserved : (f : Format) (t : ℕ) → t < 16 → octets f t ≡ 0 → known t ≡ false
+unfolding reserved-test
+no-octets-reserved f t h e = go (known t) refl (octets-known f t h)
+  where
+    go : (b : Bool) → known t ≡ b → cond b (leb 1 (octets f t)) (eqb (octets f t) 0) ≡ true → known t ≡ false
+    go true k p = absurd (omega (arith, leb-true 1 (octets f t) p))
+    go false k p = k
+
+pub octets-not-reserved : (f : Format) (t : ℕ) → t < 16 → (octets f t ≡ 0 → ⊥) → known t ≡ true
+unfolding reserved-test
+octets-not-reserved f t h n = go (known t) refl (octets-known f t h)
+  where
+    go : (b : Bool) → known t ≡ b → cond b (leb 1 (octets f t)) (eqb (octets f t) 0) ≡ true → known t ≡ true
+    go true k p = k
+    go false k p = absurd (n (eqb-true _ _ p))
+
+-- a frame that carries modes is IF1's, of three octets and a core
+pub modes-carried : (f : Format) (t : ℕ) → known t ≡ true → carriesModes f t ≡ true → (headerBits f t ≡ 24) × (4 ≤ octets f t)
+unfolding known octets
+modes-carried if1 t k c =
+    let g = every-below 16 (λ t. not (known t) || (not (leb t 9) || leb 4 (octets if1 t))) refl t (known-below t k) in
+    (ap (λ b. cond b 24 8) c, leb-true _ _ (given (leb t 9) _ (given (known t) _ g k) c))
+modes-carried if2 t k c = absurd (let z : _≡_ {A = ℕ} 0 1 = cc in omega arith)
+modes-carried storage t k c = absurd (let z : _≡_ {A = ℕ} 0 1 = cc in omega arith)
+
+-- the header and the core fit the octets, and leave less than one
+pub room : (f : Format) (t : ℕ) → known t ≡ true → (headerBits f t + coreBits t ≤ 8 * octets f t) × (8 * octets f t < headerBits f t + coreBits t + 8)
+room f t k = let p = sized f t k .packed in (omega arith, omega arith)
+
+pub sid-core : coreBits 9 ≡ 40
+unfolding coreBits
+sid-core = refl
+
+pub sid-known : known 9 ≡ true
+unfolding known
+sid-known = refl

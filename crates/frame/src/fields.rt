@@ -1,0 +1,53 @@
+// Refusal 6's test: the modes of a frame that is read or to be built.
+use crate::table::carries_modes;
+use crate::Format;
+ghost use mathlib.Core.Path.{_≡_};
+ghost use mathlib.Core.Bool.{Bool};
+ghost use mathlib.Core.List.{List};
+ghost use Prim.Native.Nat.{ℕ};
+ghost use lib.ListN.{drop};
+ghost use Rattle.bits.specs.Bits.{num};
+ghost use Rattle.definitions.specs.Frames.{sidGood, uncarriedZero, fieldsGood};
+ghost use Rattle.frame.specs.Answers.{formatOf, frameBy};
+
+// Of a SID frame the indication is 0, and the mode at most 8.
+fn sid_good(t: u64, i: u64, mode: u64) -> bool
+    ensures { λ r. ⌜ r ≡ sidGood t i mode ⌝ }
+{
+    if t != 9 {
+        return true;
+    }
+    if i != 0 {
+        return false;
+    }
+    mode <= 8
+}
+
+// A field that the frame does not carry is 0.
+fn uncarried_zero(f: Format, t: usize, i: u64, r: u64) -> bool
+    ensures { λ b. ⌜ b ≡ uncarriedZero (formatOf f) t i r ⌝ }
+{
+    if carries_modes(f, t) {
+        return true;
+    }
+    if i != 0 {
+        return false;
+    }
+    r == 0
+}
+
+// Refusal 6's test, by the fields and, of a SID frame, its mode.
+pub fn fields_good(f: Format, t: u64, i: u64, r: u64, mode: u64) -> bool
+    ensures { λ b. ⌜ ((q : ℕ) (core : List Bool) → (t ≡ 9 → mode ≡ num 4 (drop 36 core)) → b ≡ fieldsGood (formatOf f) (frameBy t q i r core)) ⌝ }
+{
+    if 8 < i {
+        return false;
+    }
+    if 8 < r {
+        return false;
+    }
+    if !sid_good(t, i, mode) {
+        return false;
+    }
+    uncarried_zero(f, t as usize, i, r)
+}

@@ -1,0 +1,318 @@
+-- The octets that the builder stores are the layout: each header octet is its fields' digits, and the core is packed behind them. Each
+-- refusal of a building call follows from the tests made before it. Assumes nothing.
+use mathlib.Core.Path.{_≡_, refl, sym, ap, ap₂, _∙_, subst}
+use mathlib.Core.Bool.{Bool, true, false, not, _&&_, _||_, cond}
+use mathlib.Core.List.{List, [], _∷_, _++_, append-assoc, append-nil}
+use Prim.Native.Nat.{ℕ, zero, suc, _+_, _-_, _*_, _/_, _<_, _≤_}
+use native.Mathlib.Nat.{add-zero, zero-lt-suc, sub-zero}
+use native.Mathlib.Omega.{arith}
+use lib.Dec.{eqb, leb}
+use lib.ListN.{length, getD, set, take, drop, length-append, length-drop, length-set}
+use lib.Seq.{take-at, drop-at, take-all, take-take, take-append-le, drop-set-lt, length-take-le}
+use borrow.Author.Tests.{le-leb, lt-leb, eq-eqb, ne-eqb}
+use Rattle.bits.specs.Bits.{digits, num, clear, bits, pack, octetsFor, Octets}
+use Rattle.bits.proofs.BitLaws.{digits-join, length-digits, length-bits, bits-set, bits-take, pack-bits, pack-append, pack-octets, take-packed, octets-take, num-within}
+use Rattle.parity.specs.Crc.{crc}
+use Rattle.parity.proofs.Guarded.{octet-bits}
+use Rattle.definitions.specs.Outcome.{Outcome, refused, ok, unless, andThen}
+use Rattle.definitions.specs.Frames.{Format, if1, if2, storage, Frame, known, coreBits, classA, octets, coreOctets, carriesModes, modesAndCrc, header, layout, headerBits, spareBefore, fieldsGood}
+use Rattle.definitions.specs.Reading.{frameOf, buildCheck, buildFrame, counted, outputAfter}
+use Rattle.definitions.proofs.Tables.{known-below, sized, class-a-within, core-most}
+use Rattle.definitions.proofs.Frames.{size-layout, fields-good, length-header}
+use Rattle.definitions.proofs.Claims.{check-known}
+use Rattle.frame.specs.Answers.{numberOf, frameBy, frameWith, bufferCore, readingOf, builtOf}
+use Rattle.frame_builder.specs.Output.{IntoOutput, runFrame, Writable}
+use Rattle.frame.specs.declared.FrameHeader.{FrameHeader}
+use Rattle.frame.specs.declared.Refusal.{Refusal}
+use Rattle.frame.specs.declared.Reading.{Reading}
+use Rattle.frame.specs.declared.Reading.the-variants.{Frame as FrameRead, Refused}
+use Rattle.frame.specs.declared.Built.the-variants as built
+use Rattle.frame.proofs.TableLaws.{modes-carried, no-octets-reserved, octets-not-reserved, sid-core}
+
+-- ---- the first octet
+
+-- type and quality, behind and before spare bits
+abbrev pub firstBits : Format → ℕ → ℕ → List Bool
+firstBits f t q = digits (spareBefore f) 0 ++ (digits 4 t ++ (digits 1 q ++ digits (3 - spareBefore f) 0))
+
+module _ (t q : ℕ) (ht : t < 16) (hq : q < 2) where
+  five : digits 5 (t * 2 + q) ≡ digits 4 t ++ digits 1 q
+  five = digits-join 4 1 t q hq
+
+  small : t * 2 + q < 32
+  small = omega arith
+
+  pub first-if : digits 8 ((t * 2 + q) * 8) ≡ firstBits if1 t q
+  unfolding digits
+  first-if =
+      ap (digits 8) (sym (add-zero ((t * 2 + q) * 8))) ∙ digits-join 5 3 (t * 2 + q) 0 (zero-lt-suc 7) ∙ ap (λ l. l ++ digits 3 0) five
+
+  pub first-storage : digits 8 ((t * 2 + q) * 4) ≡ firstBits storage t q
+  unfolding digits
+  first-storage =
+      let z : t * 2 + q ≡ 0 * 32 + (t * 2 + q) = omega arith in
+      ap (digits 8) (sym (add-zero ((t * 2 + q) * 4))) ∙ digits-join 6 2 (t * 2 + q) 0 (zero-lt-suc 3)
+      ∙ ap (λ l. l ++ digits 2 0) (ap (digits 6) z ∙ digits-join 1 5 0 (t * 2 + q) small ∙ ap (λ l. digits 1 0 ++ l) five)
+
+-- ---- a frame whose header is within one octet
+
+short-header : (f : Format) (x : Frame) → carriesModes f (x .type) ≡ false → take (headerBits f (x .type)) (firstBits f (x .type) (x .quality)) ≡ header f x
+unfolding header digits
+short-header if1 x c = rw c
+short-header if2 x c = refl
+short-header storage x c = refl
+
+short-bits : (f : Format) (t : ℕ) → carriesModes f t ≡ false → headerBits f t ≤ 8
+short-bits if1 t c = rw c (omega arith)
+short-bits if2 t c = omega arith
+short-bits storage t c = omega arith
+
+pub short-is : (f : Format) (h : FrameHeader) (src : List ℕ) (from : ℕ) (d₀ d : List ℕ) (o k b : ℕ) → Writable f h src from d₀
+    → carriesModes f (h .«frame_type») ≡ false → digits 8 o ≡ firstBits f (h .«frame_type») (h .quality)
+    → k ≡ coreBits (h .«frame_type») → b ≡ headerBits f (h .«frame_type»)
+    → d ≡ pack (take b (bits (set d₀ 0 o)) ++ take k (drop from (bits src))) ++ drop (octetsFor (b + k)) (set d₀ 0 o)
+    → d ≡ layout f (runFrame h src from) ++ drop (octets f (h .«frame_type»)) d₀
+unfolding layout
+short-is f h src from d₀ d o k b w c eo ek eb e =
+    let x = runFrame h src from in
+    let t = h .«frame_type» in
+    let z = sized f t (w .type-known) in
+    let some : 0 < length d₀ = omega (arith, w .room, z .some-octet) in
+    let r : List Bool = bits (drop 1 d₀) in
+    let front : take (headerBits f t) (bits (set d₀ 0 o)) ≡ header f (runFrame h src from) =
+    ap (take (headerBits f t)) (bits-set 0 d₀ o some)
+    ∙ take-append-le (headerBits f t) (digits 8 o) r (omega (arith, length-digits 8 o, short-bits f t c))
+    ∙ ap (take (headerBits f t)) eo ∙ short-header f x c in
+    let size : octetsFor (b + k) ≡ octets f (h .«frame_type») = ap₂ (λ m n. octetsFor (m + n)) eb ek ∙ sym (z .packed) in
+    e ∙ ap₂ (λ l n. pack l ++ drop n (set d₀ 0 o))
+    (ap₂ (λ m n. take m (bits (set d₀ 0 o)) ++ take n (drop from (bits src))) eb ek ∙ ap (λ l. l ++ take (coreBits t) (drop from (bits src))) front) size
+    ∙ ap (λ l. layout f x ++ l) (drop-set-lt (octets f t) d₀ 0 o (omega (arith, z .some-octet)))
+
+-- ---- an IF1 frame of types 0 to 9
+
+pub second-octet : (i r : ℕ) → r < 16 → digits 8 (i * 16 + r) ≡ digits 4 i ++ digits 4 r
+second-octet i r h = digits-join 4 4 i r h
+
+header-joined : (t q i r : ℕ) (l : List Bool)
+    → firstBits if1 t q ++ (digits 4 i ++ digits 4 r ++ l) ≡ digits 4 t ++ (digits 1 q ++ (digits 3 0 ++ (digits 4 i ++ (digits 4 r ++ l))))
+unfolding digits
+header-joined t q i r l = refl
+
+-- the header's three octets
+long-header : (x : Frame) (o p c : ℕ) → carriesModes if1 (x .type) ≡ true → digits 8 o ≡ firstBits if1 (x .type) (x .quality)
+    → digits 8 p ≡ digits 4 (x .indication) ++ digits 4 (x .request) → digits 8 c ≡ crc (take (classA (x .type)) (x .core))
+    → header if1 x ≡ bits (o ∷ p ∷ c ∷ [])
+unfolding header bits
+long-header x o p c m eo ep ec =
+    let l = crc (take (classA (x .type)) (x .core)) in
+    ap (λ b. digits 4 (x .type) ++ (digits 1 (x .quality) ++ (digits 3 0 ++ modesAndCrc b x))) m
+    ∙ sym (header-joined (x .type) (x .quality) (x .indication) (x .request) l)
+    ∙ ap₂ (λ j k. j ++ (k ++ l)) (sym eo) (sym ep) ∙ ap (λ k. digits 8 o ++ (digits 8 p ++ k)) (sym (append-nil (digits 8 c) ∙ ec))
+
+set-three : (d r : List ℕ) (o p c : ℕ) → 3 ≤ length d → set (set (set (take 3 d ++ r) 0 o) 1 p) 2 c ≡ o ∷ p ∷ c ∷ r
+set-three [] r o p c h = absurd (omega arith)
+set-three (x ∷ []) r o p c h = absurd (omega arith)
+set-three (x ∷ y ∷ []) r o p c h = absurd (omega arith)
+set-three (x ∷ y ∷ z ∷ d) r o p c h = refl
+
+octets-three : (o p c : ℕ) → o < 256 → p < 256 → c < 256 → Octets (o ∷ p ∷ c ∷ [])
+octets-three o p c ho hp hc zero = ho
+octets-three o p c ho hp hc (suc zero) = hp
+octets-three o p c ho hp hc (suc (suc zero)) = hc
+octets-three o p c ho hp hc (suc (suc (suc i))) = zero-lt-suc 255
+
+module _ (h : FrameHeader) (src : List ℕ) (from : ℕ) (d₀ d₁ : List ℕ) (k a : ℕ) (w : Writable if1 h src from d₀)
+    (m : carriesModes if1 (h .«frame_type») ≡ true) (oct : Octets d₀) (ek : k ≡ coreBits (h .«frame_type»)) (ea : a ≡ classA (h .«frame_type»))
+    (e : d₁ ≡ pack (take 24 (bits d₀) ++ take k (drop from (bits src))) ++ drop (octetsFor (24 + k)) d₀) where
+  core : List Bool
+  core = take (coreBits (h .«frame_type»)) (drop from (bits src))
+
+  core-size : length core ≡ coreBits (h .«frame_type»)
+  unfolding core
+  core-size = length-take-le (coreBits (h .«frame_type»)) (drop from (bits src)) (omega (arith, length-drop from (bits src), length-bits src, w .core-there))
+
+  rest : List ℕ
+  rest = drop (octets if1 (h .«frame_type»)) d₀
+
+  -- the octets after the core was put behind the first three
+  core-put : d₁ ≡ take 3 d₀ ++ (pack core ++ rest)
+  unfolding core rest
+  core-put =
+      let t = h .«frame_type» in
+      let z = sized if1 t (w .type-known) in
+      let size : octetsFor (24 + k) ≡ octets if1 (h .«frame_type») =
+      ap₂ (λ x y. octetsFor (x + y)) (sym (modes-carried if1 t (w .type-known) m .0)) ek ∙ sym (z .packed) in
+      let l24 : length (take 24 (bits d₀)) ≡ 8 * 3 = length-take-le 24 (bits d₀) (omega (arith, length-bits d₀, modes-carried if1 t (w .type-known) m .1, w .room)) in
+      e ∙ ap₂ (λ n r. pack (take 24 (bits d₀) ++ take n (drop from (bits src))) ++ drop r d₀) ek size
+      ∙ ap (λ l. l ++ drop (octets if1 t) d₀) (pack-append (take 24 (bits d₀)) (take (coreBits t) (drop from (bits src))) 3 l24
+      ∙ ap (λ l. l ++ pack (take (coreBits t) (drop from (bits src)))) (ap pack (sym (bits-take 3 d₀)) ∙ pack-bits (take 3 d₀) (octets-take 3 d₀ oct)))
+      ∙ append-assoc (take 3 d₀) (pack (take (coreBits t) (drop from (bits src)))) (drop (octets if1 t) d₀)
+
+  -- Class A, where the code takes the CRC from
+  class-a-there : take a (bits (take (length d₁ - 3) (drop 3 d₁))) ≡ take (classA (h .«frame_type»)) core
+  class-a-there =
+      let t = h .«frame_type» in
+      let l3 : length (take 3 d₀) ≡ 3 = length-take-le 3 d₀ (omega (arith, modes-carried if1 t (w .type-known) m .1, w .room)) in
+      let part : take (length d₁ - 3) (drop 3 d₁) ≡ pack core ++ rest =
+      take-all (length d₁ - 3) (drop 3 d₁) (omega (arith, length-drop 3 d₁)) ∙ ap (drop 3) core-put ∙ drop-at (take 3 d₀) (pack core ++ rest) 3 l3 in
+      ap₂ (λ n l. take n (bits l)) ea part
+      ∙ sym (take-take (classA t) (length core) (bits (pack core ++ rest)) (omega (arith, core-size, class-a-within t (w .type-known) .0)))
+      ∙ ap (take (classA t)) (take-packed core rest)
+
+  pub modes-is : (o p c : ℕ) → o < 256 → p < 256 → c < 256 → digits 8 o ≡ firstBits if1 (h .«frame_type») (h .quality)
+      → p ≡ h .indication * 16 + h .request → c ≡ num 8 (crc (take a (bits (take (length d₁ - 3) (drop 3 d₁)))))
+      → set (set (set d₁ 0 o) 1 p) 2 c ≡ layout if1 (runFrame h src from) ++ drop (octets if1 (h .«frame_type»)) d₀
+  unfolding layout core rest
+  modes-is o p c ho hp hc eo ep ec =
+      let x = runFrame h src from in
+      let t = h .«frame_type» in
+      let head = long-header x o p c m eo (ap (digits 8) ep ∙ second-octet (h .indication) (h .request) (w .request-bits))
+      (octet-bits (take (classA t) core) c (ec ∙ ap (λ l. num 8 (crc l)) class-a-there)) in
+      ap (λ l. set (set (set l 0 o) 1 p) 2 c) core-put
+      ∙ set-three d₀ (pack core ++ rest) o p c (omega (arith, modes-carried if1 t (w .type-known) m .1, w .room))
+      ∙ ap (λ l. l ++ (pack core ++ rest)) (sym (pack-bits (o ∷ p ∷ c ∷ []) (octets-three o p c ho hp hc)))
+      ∙ sym (append-assoc (pack (bits (o ∷ p ∷ c ∷ []))) (pack core) rest)
+      ∙ ap (λ l. l ++ rest) (sym (pack-append (bits (o ∷ p ∷ c ∷ [])) core 3 (length-bits (o ∷ p ∷ c ∷ []))) ∙ ap (λ l. pack (l ++ core)) (sym head))
+
+-- only IF1 carries modes
+pub only-if1 : (f : Format) (t : ℕ) → carriesModes f t ≡ true → if1 ≡ f
+only-if1 if1 t c = refl
+only-if1 if2 t c = absurd (let z : _≡_ {A = ℕ} 0 1 = cc in omega arith)
+only-if1 storage t c = absurd (let z : _≡_ {A = ℕ} 0 1 = cc in omega arith)
+
+-- ---- the tests of a building call
+
+-- `core_fill_clear`
+pub fill-none : (c : List ℕ) (k : ℕ) → length c ≡ octetsFor k → length c ≡ 0 → true ≡ clear (8 * length c - k) (drop k (bits c))
+unfolding num
+fill-none c k l z =
+    let none : 8 * length c - k ≡ 0 = omega arith in
+    sym (ap (λ n. clear n (drop k (bits c))) none)
+
+pub fill-last : (c : List ℕ) (k r : ℕ) → length c ≡ octetsFor k → r ≡ num (8 * length c - k) (drop (8 * length c - (8 * length c - k)) (bits c))
+    → eqb r 0 ≡ clear (8 * length c - k) (drop k (bits c))
+fill-last c k r l e =
+    let back : 8 * length c - (8 * length c - k) ≡ k = omega arith in
+    ap (λ n. eqb n 0) (e ∙ ap (λ n. num (8 * length c - k) (drop n (bits c))) back)
+
+-- `core_fields_good`: the SID mode lies within the core
+pub mode-within : (c : List ℕ) (t v : ℕ) → t ≡ 9 → v ≡ num 4 (drop 36 (bits c)) → v ≡ num 4 (drop 36 (bufferCore c t))
+mode-within c t v et ev =
+    ev ∙ sym (num-within 4 36 40 (bits c) (omega arith)) ∙ ap (λ k. num 4 (drop 36 (take k (bits c)))) (sym (ap coreBits et ∙ sid-core))
+
+module _ (f : Format) (t q i r : ℕ) (c : List ℕ) (room : ℕ) where
+  pub type-high : 15 < t → refused 11 ≡ buildCheck f t q i r c room
+  unfolding buildCheck
+  type-high h = rw (lt-leb t 15 h)
+
+  pub quality-high : t ≤ 15 → 1 < q → refused 11 ≡ buildCheck f t q i r c room
+  unfolding buildCheck
+  quality-high ht h = rw (le-leb t 15 ht, lt-leb q 1 h)
+
+  module _ (ht : t ≤ 15) (hq : q ≤ 1) (n : ℕ) (en : n ≡ octets f t) where
+    pub type-reserved : n ≡ 0 → refused 2 ≡ buildCheck f t q i r c room
+    unfolding buildCheck
+    type-reserved z = rw (le-leb t 15 ht, le-leb q 1 hq, no-octets-reserved f t (omega arith) (sym en ∙ z))
+
+    pub type-there : (n ≡ 0 → ⊥) → known t ≡ true
+    type-there z = octets-not-reserved f t (omega arith) (λ y. z (en ∙ y))
+
+    module _ (k : ℕ) (ek : k ≡ coreBits t) (kt : known t ≡ true) where
+      pub core-length-wrong : (length c ≡ (k + 7) / 8 → ⊥) → refused 11 ≡ buildCheck f t q i r c room
+      unfolding buildCheck
+      core-length-wrong w =
+          rw (le-leb t 15 ht, le-leb q 1 hq, kt, ne-eqb (length c) (coreOctets t) (λ y. w (y ∙ ap octetsFor (sym ek))))
+
+      module _ (l : length c ≡ (k + 7) / 8) where
+        size : length c ≡ coreOctets t
+        size = l ∙ ap octetsFor ek
+
+        pub fill-wrong : (b : Bool) → b ≡ clear (8 * length c - k) (drop k (bits c)) → b ≡ false → refused 5 ≡ buildCheck f t q i r c room
+        unfolding buildCheck
+        fill-wrong b e w =
+            let z : clear (8 * length c - coreBits t) (drop (coreBits t) (bits c)) ≡ false =
+            ap (λ k. clear (8 * length c - k) (drop k (bits c))) (sym ek) ∙ sym e ∙ w in
+            rw (le-leb t 15 ht, le-leb q 1 hq, kt, eq-eqb (length c) (coreOctets t) size, z)
+
+        module _ (b : Bool) (eb : b ≡ clear (8 * length c - k) (drop k (bits c))) (fill : b ≡ true) where
+          filled : clear (8 * length c - coreBits t) (drop (coreBits t) (bits c)) ≡ true
+          filled = ap (λ k. clear (8 * length c - k) (drop k (bits c))) (sym ek) ∙ sym eb ∙ fill
+
+          pub fields-wrong : fieldsGood f (frameOf t q i r c) ≡ false → refused 6 ≡ buildCheck f t q i r c room
+          unfolding buildCheck
+          fields-wrong w = rw (le-leb t 15 ht, le-leb q 1 hq, kt, eq-eqb (length c) (coreOctets t) size, filled, w)
+
+          module _ (g : fieldsGood f (frameOf t q i r c) ≡ true) where
+            pub output-short : room < n → refused 10 ≡ buildCheck f t q i r c room
+            unfolding buildCheck
+            output-short h =
+                rw (le-leb t 15 ht, le-leb q 1 hq, kt, eq-eqb (length c) (coreOctets t) size, filled, g, ← en, lt-leb n room h)
+
+            pub builds : n ≤ room → ok (frameOf t q i r c, n) ≡ buildCheck f t q i r c room
+            unfolding buildCheck
+            builds h =
+                rw (le-leb t 15 ht, le-leb q 1 hq, kt, eq-eqb (length c) (coreOctets t) size, filled, g, ← en, le-leb n room h)
+
+-- modes that pass refusal 6's test fit an octet
+pub modes-fit : (f : Format) (x : Frame) → fieldsGood f x ≡ true → (x .indication ≤ 8) × (x .request ≤ 8)
+modes-fit f x h = let g = fields-good f x h in (g .indication, g .request)
+
+-- ---- `build`
+
+module _ (f : Format) (t q i r : ℕ) (c d₀ : List ℕ) (a : Reading) (ea : readingOf (bufferCore c) a ≡ buildCheck f t q i r c (length d₀)) where
+  pub refused-build : (e : Refusal) → a ≡ Refused e → IntoOutput (buildFrame f t q i r c (length d₀)) d₀ d₀ (built.Refused e)
+  refused-build e er =
+      let o : refused (numberOf e) ≡ buildFrame f t q i r c (length d₀) =
+      ap (λ o. andThen o (λ y. ok (layout f (y .0)))) (sym (ap (readingOf (bufferCore c)) er) ∙ ea) in
+      record { answer = ap counted o; buffer = ap (λ o. outputAfter o d₀) o }
+
+  module _ (h : FrameHeader) (n : ℕ) (eh : a ≡ FrameRead h n) where
+    x : Frame
+    x = frameWith h (bufferCore c (h .«frame_type»))
+
+    check-is : buildCheck f t q i r c (length d₀) ≡ ok (x, n)
+    unfolding x
+    check-is = sym ea ∙ ap (readingOf (bufferCore c)) eh
+
+    same : _≡_ {A = Frame × ℕ} (frameOf t q i r c, octets f t) (x, n)
+    same = check-known f t q i r c (length d₀) (x, n) check-is .shown
+
+    same-type : t ≡ h .«frame_type»
+    unfolding x
+    same-type = ap (λ (y : Frame × ℕ). y .0 .type) same
+
+    pub writable : Writable f h c 0 d₀
+    unfolding x
+    writable =
+        let p = check-known f t q i r c (length d₀) (x, n) check-is in
+        let g = modes-fit f (frameOf t q i r c) (p .fields) in
+        let eq : q ≡ h .quality = ap (λ (y : Frame × ℕ). y .0 .quality) same in
+        let ei : i ≡ h .indication = ap (λ (y : Frame × ℕ). y .0 .indication) same in
+        let er : r ≡ h .request = ap (λ (y : Frame × ℕ). y .0 .request) same in
+        let ek = ap coreBits same-type in
+        let eo = ap (octets f) same-type in
+        let most = core-most t (p .type-known) in
+        record {
+          type-known = ap known (sym same-type) ∙ p .type-known;
+          quality-bit = omega (arith, p .quality-bit);
+          indication-bits = omega arith;
+          request-bits = omega arith;
+          core-there = omega (arith, p .core-size);
+          core-near = omega arith;
+          room = omega (arith, p .space);
+        }
+
+    pub built-frame : (d : List ℕ) → d ≡ layout f (runFrame h c 0) ++ drop (octets f (h .«frame_type»)) d₀
+        → IntoOutput (buildFrame f t q i r c (length d₀)) d₀ d (built.Octets n)
+    unfolding x
+    built-frame d e =
+        let p = check-known f t q i r c (length d₀) (x, n) check-is in
+        let o : buildFrame f t q i r c (length d₀) ≡ ok (layout f (runFrame h c 0)) = ap (λ o. andThen o (λ y. ok (layout f (y .0)))) check-is in
+        let kt : known (h .«frame_type») ≡ true = ap known (sym same-type) ∙ p .type-known in
+        let lc = length-take-le (coreBits (h .«frame_type»)) (bits c) (omega (arith, writable .core-there, length-bits c)) in
+        let l : length (layout f (runFrame h c 0)) ≡ octets f (h .«frame_type») = size-layout f (runFrame h c 0) kt lc in
+        let en : n ≡ octets f (h .«frame_type») = sym (ap (λ (y : Frame × ℕ). y .1) same) ∙ ap (octets f) same-type in
+        record {
+          answer = ap ok (en ∙ sym l) ∙ sym (ap counted o);
+          buffer = e ∙ ap (λ m. layout f (runFrame h c 0) ++ drop m d₀) (sym l) ∙ sym (ap (λ o. outputAfter o d₀) o);
+        }

@@ -1,0 +1,2 @@
+mod ReaderLaws
+mod CallLaws

@@ -1,0 +1,199 @@
+// Reading one frame. Each test of document 01's order is one function, whose answer equals the definition's test; `judge` makes them
+// in that order. `read_frame` is an entry; `read_front` is `pub` for the crates that go over recordings.
+use frame::fields::fields_good;
+use frame::table::{
+    carries_modes, class_a, core_bits, header_bits, octets_of, spare_after, spare_before,
+};
+use frame::{format_numbered, Format, FormatFound, FrameHeader, Reading, Refusal};
+ghost use mathlib.Core.Path.{_≡_};
+ghost use mathlib.Core.Bool.{Bool, true, not, _||_, cond};
+ghost use mathlib.Core.List.{List};
+ghost use Prim.Native.Nat.{ℕ, _+_, _<_, _≤_};
+ghost use lib.Dec.{leb};
+ghost use lib.ListN.{length, drop};
+ghost use Rattle.bits.specs.Bits.{bits, num};
+ghost use Rattle.definitions.specs.Frames.{known, octets, carriesModes, headerBits, typeIn, qualityIn, coreIn, frameIn, fillClear, spareClear, fieldsGood, crcGood};
+ghost use Rattle.definitions.specs.Reading.{readWith, readFrame, intoBuffer, readCall};
+ghost use Rattle.frame_reader.specs.Buffer.{IntoBuffer};
+ghost use Rattle.frame.specs.Answers.{formatOf, frameWith, readingOf};
+
+// The type that the first octet names.
+fn type_in(f: Format, s: &[u8]) -> u8
+    requires { ⌜ 0 < length (now s) ⌝ }
+    ensures { λ r. ⌜ r ≡ typeIn (formatOf f) (bits (now (s .entry))) ⌝ }
+{
+    bits::field_at(s, spare_before(f), 4)
+}
+
+// The FQI.
+fn quality_in(f: Format, s: &[u8]) -> u8
+    requires { ⌜ 0 < length (now s) ⌝ }
+    ensures { λ r. ⌜ r ≡ qualityIn (formatOf f) (bits (now (s .entry))) ⌝ }
+{
+    bits::field_at(s, spare_before(f) + 4, 1)
+}
+
+// The mode that stands at bit `from`, 0 where the frame carries none.
+fn mode_in(f: Format, s: &[u8], t: usize, from: usize) -> u8
+    requires { ⌜ (known t ≡ true) × (octets (formatOf f) t ≤ length (now s)) × (from < 16) ⌝ }
+    ensures { λ r. ⌜ r ≡ cond (carriesModes (formatOf f) t) (num 4 (drop from (bits (now (s .entry))))) 0 ⌝ }
+{
+    if carries_modes(f, t) {
+        return bits::field_at(s, from, 4);
+    }
+    0
+}
+
+// The fields but for the core.
+fn header_in(f: Format, s: &[u8], t: u8) -> FrameHeader
+    requires { ⌜ (t ≡ typeIn (formatOf f) (bits (now s))) × (known t ≡ true) × (octets (formatOf f) t ≤ length (now s)) ⌝ }
+    ensures { λ r. ⌜ frameWith r (coreIn (formatOf f) t (bits (now (s .entry)))) ≡ frameIn (formatOf f) (bits (now (s .entry))) ⌝ }
+{
+    let k = t as usize;
+    let quality = quality_in(f, s);
+    let indication = mode_in(f, s, k, 8);
+    let request = mode_in(f, s, k, 12);
+    FrameHeader {
+        frame_type: t,
+        quality,
+        indication,
+        request,
+    }
+}
+
+// Nothing stands behind a single frame.
+fn ends(single: bool, len: usize, n: usize) -> bool
+    ensures { λ r. ⌜ r ≡ (not single || leb len n) ⌝ }
+{
+    if single {
+        return len <= n;
+    }
+    true
+}
+
+// The filling bits are 0.
+fn fill_clear(f: Format, s: &[u8], t: usize) -> bool
+    requires { ⌜ (known t ≡ true) × (octets (formatOf f) t ≤ length (now s)) ⌝ }
+    ensures { λ r. ⌜ r ≡ fillClear (formatOf f) t (bits (now (s .entry))) ⌝ }
+{
+    let n = octets_of(f, t);
+    let end = header_bits(f, t) + core_bits(t);
+    bits::low_bits(s, n, 8 * n - end) == 0
+}
+
+// Refusal 5's test.
+fn spare_clear(f: Format, s: &[u8], t: usize) -> bool
+    requires { ⌜ (t ≡ typeIn (formatOf f) (bits (now s))) × (known t ≡ true) × (octets (formatOf f) t ≤ length (now s)) ⌝ }
+    ensures { λ r. ⌜ r ≡ spareClear (formatOf f) (bits (now (s .entry))) ⌝ }
+{
+    let b = spare_before(f);
+    if bits::field_at(s, 0, b) != 0 {
+        return false;
+    }
+    if bits::field_at(s, b + 5, spare_after(f)) != 0 {
+        return false;
+    }
+    fill_clear(f, s, t)
+}
+
+// The mode of a SID frame, d(36..39).
+fn sid_mode(f: Format, s: &[u8]) -> u8
+    requires { ⌜ octets (formatOf f) 9 ≤ length (now s) ⌝ }
+    ensures { λ r. ⌜ r ≡ num 4 (drop 36 (coreIn (formatOf f) 9 (bits (now (s .entry))))) ⌝ }
+{
+    bits::field_at(s, header_bits(f, 9) + 36, 4)
+}
+
+// Refusal 6's test of a frame that is read.
+fn header_good(f: Format, s: &[u8], h: FrameHeader) -> bool
+    requires { ⌜ octets (formatOf f) (h .«frame_type») ≤ length (now s) ⌝ }
+    ensures { λ r. ⌜ r ≡ fieldsGood (formatOf f) (frameWith h (coreIn (formatOf f) (h .«frame_type») (bits (now (s .entry))))) ⌝ }
+{
+    let t = h.frame_type as u64;
+    let i = h.indication as u64;
+    let r = h.request as u64;
+    if t == 9 {
+        return fields_good(f, t, i, r, sid_mode(f, s) as u64);
+    }
+    fields_good(f, t, i, r, 0)
+}
+
+// Refusal 7's test.
+fn crc_good(f: Format, s: &[u8], t: usize) -> bool
+    requires { ⌜ (t ≡ typeIn (formatOf f) (bits (now s))) × (known t ≡ true) × (octets (formatOf f) t ≤ length (now s)) ⌝ }
+    ensures { λ r. ⌜ r ≡ crcGood (formatOf f) (bits (now (s .entry))) ⌝ }
+{
+    if carries_modes(f, t) {
+        let core = &s[3..];
+        return bits::field_at(s, 16, 8) == parity::crc_of(core, class_a(t));
+    }
+    true
+}
+
+// The tests in document 01's order.
+fn judge(single: bool, f: Format, s: &[u8]) -> Reading
+    ensures { λ r. ⌜ readingOf (λ t. coreIn (formatOf f) t (bits (now (s .entry)))) r ≡ readWith single (formatOf f) (now (s .entry)) ⌝ }
+{
+    if s.len() == 0 {
+        return Reading::Refused(Refusal::NoOctets);
+    }
+    let t = type_in(f, s);
+    let k = t as usize;
+    let n = octets_of(f, k);
+    if n == 0 {
+        return Reading::Refused(Refusal::ReservedType);
+    }
+    if s.len() < n {
+        return Reading::Refused(Refusal::TooShort);
+    }
+    if !ends(single, s.len(), n) {
+        return Reading::Refused(Refusal::OctetsAfter);
+    }
+    if !spare_clear(f, s, k) {
+        return Reading::Refused(Refusal::SpareBit);
+    }
+    let h = header_in(f, s, t);
+    if !header_good(f, s, h) {
+        return Reading::Refused(Refusal::FieldRange);
+    }
+    if !crc_good(f, s, k) {
+        return Reading::Refused(Refusal::CrcMismatch);
+    }
+    Reading::Frame(h, n)
+}
+
+// The frame at the start of `s`, where more may follow; its count is the octets that it takes.
+pub fn read_front(f: Format, s: &[u8]) -> Reading
+    ensures { λ r. ⌜ readingOf (λ t. coreIn (formatOf f) t (bits (now (s .entry)))) r ≡ readFrame (formatOf f) (now (s .entry)) ⌝ }
+{
+    judge(false, f, s)
+}
+
+// Puts the core of the frame at the start of `s`, whose header is `h`, packed into the buffer, if that has room.
+fn core_out(f: Format, s: &[u8], h: FrameHeader, core: &mut [u8]) -> Reading
+    requires { ⌜ (known (h .«frame_type») ≡ true) × (octets (formatOf f) (h .«frame_type») ≤ length (now s)) ⌝ }
+    ensures { λ r. ⌜ IntoBuffer (intoBuffer (frameWith h (coreIn (formatOf f) (h .«frame_type») (bits (now (s .entry))))) (length (now (core .entry)))) (now (core .entry)) (now (core .exit)) r ⌝ }
+{
+    let t = h.frame_type as usize;
+    let k = core_bits(t);
+    let m = (k + 7) / 8;
+    if core.len() < m {
+        return Reading::Refused(Refusal::OutputShort);
+    }
+    bits::put_run(s, header_bits(f, t), k, core, 0);
+    Reading::Frame(h, m)
+}
+
+// Reads one frame: its fields in the answer, with how many octets its packed core takes in the buffer. An entry.
+pub fn read_frame(format: u64, s: &[u8], core: &mut [u8]) -> Reading
+    ensures { λ r. ⌜ IntoBuffer (readCall format (now (s .entry)) (length (now (core .entry)))) (now (core .entry)) (now (core .exit)) r ⌝ }
+{
+    let FormatFound::Is(f) = format_numbered(format) else {
+        return Reading::Refused(Refusal::ArgumentRange);
+    };
+    let r = judge(true, f, s);
+    let Reading::Frame(h, _) = r else {
+        return r;
+    };
+    core_out(f, s, h, core)
+}
