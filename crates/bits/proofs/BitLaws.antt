@@ -3,16 +3,16 @@ use mathlib.Core.Path.{_≡_, refl, sym, ap, ap₂, _∙_, subst}
 use mathlib.Core.Bool.{Bool, true, false}
 use mathlib.Core.List.{List, [], _∷_, _++_, append-assoc, append-nil}
 use Prim.Native.Nat.{ℕ, zero, suc, _+_, _-_, _*_, _/_, _%_, _^_, _≤_, _<_, zero-le, suc-le-suc}
-use native.Mathlib.Nat.{zero-add, suc-add, add-comm, mul-suc, suc-sub-suc, zero-sub, sub-zero, zero-div, div-one, mod-lt, mod-mod, mod-eq-of-lt, pow-succ', le-of-suc-le-suc, not-suc-le-zero, le-refl, zero-lt-suc, zero-mul, one-mul, add-zero, add-assoc}
+use native.Mathlib.Nat.{zero-add, suc-add, add-comm, suc-sub-suc, zero-sub, sub-zero, zero-div, mod-lt, mod-mod, mod-eq-of-lt, pow-succ', le-of-suc-le-suc, not-suc-le-zero, le-refl, zero-lt-suc, zero-mul, add-zero, add-assoc}
 use native.Mathlib.Numerals.{one-add}
 use native.Mathlib.Omega.{arith}
-use lib.ListN.{length, getD, set, take, drop, replicate, length-append, take-append-drop, length-take, length-drop, drop-of-length-le, List·getD-append, List·getD-eq-default, replicate-append-replicate, length-replicate}
-use lib.Seq.{take-at, drop-at, take-append-add, drop-append-add, take-append-le, drop-append-le, take-add, drop-drop, take-nil, drop-nil, drop-cons, set-split, getD-drop, getD-append-add, take-all, length-paste-head}
+use lib.ListN.{length, getD, set, take, drop, replicate, length-append, take-append-drop, length-drop, drop-of-length-le, List·getD-append, List·getD-eq-default, replicate-append-replicate, length-replicate}
+use lib.Seq.{take-at, drop-at, take-append-add, drop-append-add, take-append-le, drop-append-le, take-add, drop-drop, take-nil, drop-nil, drop-cons, set-split, getD-drop, take-all, length-paste-head}
 use lib.Dec.{eqb}
 use mathlib.Core.Logic.{_⊎_, inl, inr, ⊎-elim, _↔_}
 use lib.Arith.{digits-lt}
 use lib.Pow.{pow-pos, shr-shr, mod-pow-add, mod-mod-pow, field, high, low}
-use Rattle.bits.specs.Bits.{odd, one-if, digits, num, clear, bits, packs, pack, octetsFor, Octets, copied}
+use Rattle.bits.specs.Bits.{odd, one-if, digits, num, bits, packs, pack, octetsFor, Octets, copied}
 
 pub lt-or-ge : (a b : ℕ) → (a < b) ⊎ (b ≤ a)
 lt-or-ge a zero = inr zero-le
@@ -130,11 +130,6 @@ num-take zero k l h = refl
 num-take (suc j) zero l h = absurd (not-suc-le-zero h)
 num-take (suc j) (suc k) [] h = refl
 num-take (suc j) (suc k) (b ∷ l) h = ap (λ (n : ℕ). one-if b * 2 ^ j + n) (num-take j k l (le-of-suc-le-suc h))
-
--- a number below 2 ^ k with the digits of the first k bits is their num
-pub num-unique : (k v : ℕ) (l : List Bool) → v < 2 ^ k → digits k v ≡ take k l → v ≡ num k l
-num-unique k v l h e =
-    sym (mod-eq-of-lt h) ∙ sym (num-digits k v) ∙ ap (num k) e ∙ num-take k k l (le-refl k)
 
 -- bits past the end are false
 pub num-zeros : (k m : ℕ) → num k (replicate m false) ≡ 0
@@ -313,13 +308,6 @@ octets-take (suc m) [] o i = zero-lt-suc 255
 octets-take (suc m) (x ∷ s) o zero = o 0
 octets-take (suc m) (x ∷ s) o (suc i) = octets-take m s (λ j. o (suc j)) i
 
-pub octets-set : (s : List ℕ) (i y : ℕ) → Octets s → y < 256 → Octets (set s i y)
-octets-set [] i y o h k = o k
-octets-set (x ∷ s) zero y o h zero = h
-octets-set (x ∷ s) zero y o h (suc k) = o (suc k)
-octets-set (x ∷ s) (suc i) y o h zero = o 0
-octets-set (x ∷ s) (suc i) y o h (suc k) = octets-set s i y (λ j. o (suc j)) h k
-
 pub octets-append : (s t : List ℕ) → Octets s → Octets t → Octets (s ++ t)
 octets-append [] t os ot i = ot i
 octets-append (x ∷ s) t os ot zero = os 0
@@ -348,11 +336,6 @@ num-field n a k b x l e =
     ∙ ap (λ (m : ℕ). num k (take k (drop a (digits m x)))) (sym e)
     ∙ ap (num k) (digits-field a k b x)
     ∙ num-digits k (x / 2 ^ b)
-
--- the same of the list's first octet: how a header's fields are read
-pub head-field : (a k b x : ℕ) (s : List ℕ) → a + (k + b) ≡ 8 → num k (drop a (bits (x ∷ s))) ≡ x / 2 ^ b % 2 ^ k
-unfolding bits
-head-field a k b x s e = num-field 8 a k b x (bits s) e
 
 -- of any octet of the list
 pub octet-field : (i a k b : ℕ) (s : List ℕ) → i < length s → a + (k + b) ≡ 8

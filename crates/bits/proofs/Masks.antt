@@ -1,19 +1,19 @@
 -- Masks and shifts as the code writes them.
 -- Assumes nothing.
-use mathlib.Core.Path.{_≡_, refl, sym, ap, ap₂, _∙_, subst}
-use mathlib.Core.List.{List, [], _++_, append-assoc, append-nil}
+use mathlib.Core.Path.{_≡_, sym, ap, ap₂, _∙_, subst}
+use mathlib.Core.List.{List, [], _++_, append-nil}
 use mathlib.Core.Bool.{Bool, false}
-use Prim.Native.Nat.{ℕ, zero, suc, _+_, _-_, _*_, _/_, _%_, _^_, _≤_, _<_}
-use native.Mathlib.Nat.{one-mul, div-one, add-comm, mul-assoc, add-mul-div-right, mul-mod-left, le-refl, zero-mul, zero-add, add-assoc, mod-lt, le-trans, lt-of-lt-of-le, lt-of-le-of-lt, add-zero}
+use Prim.Native.Nat.{ℕ, suc, _+_, _-_, _*_, _/_, _%_, _^_, _≤_, _<_}
+use native.Mathlib.Nat.{one-mul, div-one, add-comm, mul-assoc, add-mul-div-right, mul-mod-left, le-refl, zero-mul, zero-add, add-assoc, mod-lt, lt-of-lt-of-le, lt-of-le-of-lt, add-zero}
 use native.Mathlib.Omega.{arith}
 use lib.ListN.{length, getD, set, take, drop, replicate, length-drop, drop-of-length-le, take-append-drop}
 use lib.Seq.{drop-drop}
 use lib.Dec.{lit≤, lit<, eqb}
 use native.Mathlib.Numerals.{add-one}
-use lib.Bits.{bitAnd, bitOr, and-mask, and-block, or-block, or-zero-r, or-shifted, or-shifted-r, and-le-l, and-le-r, or-lt}
+use lib.Bits.{bitAnd, bitOr, and-mask, and-block, or-block, or-zero-r, or-shifted, or-shifted-r, and-le-l, or-lt}
 use lib.Pow.{pow-pos, pow-mono, shl-exact, shl-lt, split, ones-lt, ones-split, mod-mod-pow, high, low, pow-add, shr-lt, shl-shr, mod-pow-add}
 use Rattle.bits.specs.Bits.{octetsFor, Octets, bits, num, odd, copied, digits}
-use Rattle.bits.proofs.BitLaws.{octet-field, digits-zero, window-field, bits-getD, bits-put, copied-more, length-bits, length-digits, digits-num-le, digits-add, digits-join, digits-mod, digits-low, take-digits, drop-digits}
+use Rattle.bits.proofs.BitLaws.{octet-field, digits-zero, window-field, bits-getD, bits-put, copied-more, length-bits, length-digits, digits-num-le, digits-join, digits-mod, take-digits, drop-digits}
 
 -- `1 << k` at u32
 pub one-shl : (k : ℕ) → k ≤ 8 → (1 * 2 ^ k) % 2 ^ 32 ≡ 2 ^ k

@@ -18,14 +18,6 @@ pub both : (a b : Bool) → a ≡ true → b ≡ true → (a && b) ≡ true
 both true b h k = k
 both false b h k = h
 
-pub or-left : (a b : Bool) → a ≡ true → (a || b) ≡ true
-or-left true b h = refl
-or-left false b h = cc
-
-pub or-right : (a b : Bool) → b ≡ true → (a || b) ≡ true
-or-right true b h = refl
-or-right false b h = h
-
 pub or-cases : (a b : Bool) → (a || b) ≡ true → (a ≡ true) ⊎ (b ≡ true)
 or-cases true b h = inl refl
 or-cases false b h = inr h

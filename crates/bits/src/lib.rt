@@ -6,6 +6,7 @@ ghost use mathlib.Core.List.{_++_};
 ghost use mathlib.Core.Bool.{false};
 ghost use Prim.Native.Nat.{_+_, _-_, _*_, _%_, _≤_, _<_, _^_};
 ghost use lib.ListN.{length, getD, take, drop, replicate};
+ghost use Rattle.bits.specs.Claims.{PacksBits};
 ghost use Rattle.bits.specs.Bits.{bits, digits, num, pack, octetsFor, copied};
 
 // The bit of `s` at index `i`.
@@ -146,3 +147,8 @@ pub fn put_run(src: &[u8], from: usize, n: usize, dst: &mut [u8], at: usize)
     copy_run(src, from, n, dst, at);
     clear_to_border(dst, at + n);
 }
+
+// Does nothing. Its contract: packing and unpacking undo each other.
+pub fn packing_claim()
+    ensures { λ _. ⌜ PacksBits ⌝ }
+{}

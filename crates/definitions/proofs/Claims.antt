@@ -1,9 +1,8 @@
 -- Demand 2 for one frame, from the two directions of `Frames`: `read-begins` and `begins-read`. Assumes nothing.
-use mathlib.Core.Path.{_≡_, refl, sym, ap, ap₂, _∙_, subst}
+use mathlib.Core.Path.{_≡_, refl, sym, ap, ap₂, _∙_}
 use mathlib.Core.Bool.{Bool, true, false, not, _&&_, _||_}
-use mathlib.Core.List.{List, [], _∷_, _++_, append-nil}
-use mathlib.Core.Logic.{_↔_}
-use Prim.Native.Nat.{ℕ, _+_, _-_, _*_, _<_, _≤_}
+use mathlib.Core.List.{List, [], _++_, append-nil}
+use Prim.Native.Nat.{ℕ, _+_, _-_, _*_, _≤_}
 use native.Mathlib.Nat.{le-refl}
 use native.Mathlib.Omega.{arith}
 use lib.Dec.{eqb, leb}
@@ -11,12 +10,12 @@ use lib.ListN.{length, take, drop, replicate, length-drop, take-append-drop}
 use lib.Seq.{take-at, drop-at, take-all, take-nil, length-take-le}
 use borrow.Author.Tests.{leb-true, le-leb, eqb-true, eq-eqb}
 use Rattle.bits.specs.Bits.{num, clear, bits, pack, octetsFor, Octets}
-use Rattle.bits.proofs.BitLaws.{num-clear, num-zero, length-bits, bits-pack, length-pack, pack-octets, pack-unique, octets-append}
-use Rattle.bits.proofs.Tests.{and-left, and-right, both, or-right, given}
+use Rattle.bits.proofs.BitLaws.{num-clear, num-zero, length-bits, bits-pack, length-pack, pack-octets, pack-unique}
+use Rattle.bits.proofs.Tests.{and-left, and-right, given}
 use Rattle.definitions.specs.Outcome.{Outcome, refused, ok, unless, andThen}
-use Rattle.definitions.specs.Frames.{Format, if1, if2, storage, Frame, known, coreBits, octets, coreOctets, header, layout, fieldsGood}
+use Rattle.definitions.specs.Frames.{Format, if2, Frame, known, coreBits, octets, coreOctets, header, layout, fieldsGood}
 use Rattle.definitions.specs.Reading.{readWith, readFrame, frameOf, buildCheck, buildFrame}
-use Rattle.definitions.specs.Claims.{Valid, Begins, Reader, ReadsFrames, ReadsOneFrame, WrongReaders, LayoutsDiffer, Builder, BuildsFrames}
+use Rattle.definitions.specs.Claims.{Valid, Begins, ReadsFrames, ReadsOneFrame, WrongReaders, LayoutsDiffer, BuildsFrames}
 use Rattle.definitions.proofs.Tables.{known-below, sized}
 use Rattle.definitions.proofs.Frames.{frame-path, length-layout, never, read-begins, begins-read}
 
@@ -38,7 +37,7 @@ reads-one-frame = record {
         let e : n ≡ length s = sym (p .2) in
         begins-read true f s x n
         (record { valid = p .0; size = ap length (sym (p .1)) ∙ p .2; laid = take-all n s (omega arith) ∙ p .1 })
-        (le-leb (length s) n (omega arith)))
+        (le-leb (length s) n (omega arith))),
   );
 }
 
@@ -96,8 +95,7 @@ packed-core k c o l z =
     let d : length (drop k (bits c)) ≡ 8 * length c - k = omega (arith, length-drop k (bits c), length-bits c) in
     let fill : drop k (bits c) ≡ replicate (8 * length c - k) false =
     sym (take-all (8 * length c - k) (drop k (bits c)) (omega arith))
-    ∙ num-zero (8 * length c - k) (drop k (bits c)) (omega arith) .0 (eqb-true _ _ z) in
-    (
+    ∙ num-zero (8 * length c - k) (drop k (bits c)) (omega arith) .0 (eqb-true _ _ z) in (
       n,
       pack-unique c (take k (bits c)) (8 * length c - k) o (l ∙ ap octetsFor (sym n))
           (sym (take-append-drop k (bits c)) ∙ ap (λ r. take k (bits c) ++ r) fill),
@@ -110,8 +108,7 @@ bits-core core =
     let r : List Bool = replicate (8 * octetsFor (length core) - length core) false in
     let k : 8 * length (pack core) - length core ≡ 8 * octetsFor (length core) - length core = ap (λ n. 8 * n - length core) (length-pack core) in
     let z : drop (length core) (bits (pack core)) ≡ replicate (8 * octetsFor (length core) - length core) false ++ [] =
-    ap (drop (length core)) (bits-pack core) ∙ drop-at core r _ refl ∙ sym (append-nil r) in
-    (
+    ap (drop (length core)) (bits-pack core) ∙ drop-at core r _ refl ∙ sym (append-nil r) in (
       ap (take (length core)) (bits-pack core) ∙ take-at core r _ refl,
       eq-eqb _ 0 (ap₂ num k z ∙ num-clear (8 * octetsFor (length core) - length core) []),
     )
@@ -163,8 +160,7 @@ build-sound : (f : Format) (t q i r : ℕ) (c : List ℕ) (room : ℕ) (w : List
 build-sound f t q i r c room w o h =
     let y = laid-out f (buildCheck f t q i r c room) w h in
     let p = check-known f t q i r c room (y .0) (y .1) in
-    let k = packed-core (coreBits t) c o (p .core-size) (p .fill) in
-    (
+    let k = packed-core (coreBits t) c o (p .core-size) (p .fill) in (
       record { type-known = p .type-known; quality-bit = p .quality-bit; core-length = k .0; fields-good = p .fields },
       sym (y .2) ∙ ap (λ (z : Frame × ℕ). layout f (z .0)) (sym (p .shown)),
       k .1,

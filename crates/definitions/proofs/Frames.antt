@@ -2,25 +2,23 @@
 -- back; the core stands behind the header, and the filling is 0. Assumes nothing.
 use mathlib.Core.Path.{_≡_, refl, sym, ap, ap₂, _∙_, subst}
 use mathlib.Core.Bool.{Bool, true, false, not, _&&_, _||_, cond}
-use mathlib.Core.List.{List, [], _∷_, _++_, append-assoc}
-use mathlib.Core.Logic.{⊎-elim}
-use Prim.Native.Nat.{ℕ, zero, suc, _+_, _-_, _*_, _^_, _<_, _≤_}
-use native.Mathlib.Nat.{le-refl}
+use mathlib.Core.List.{List, _++_, append-assoc}
+use Prim.Native.Nat.{ℕ, _+_, _-_, _*_, _<_, _≤_}
 use native.Mathlib.Omega.{arith}
 use lib.Dec.{eqb, leb}
 use lib.ListN.{length, take, drop, replicate, length-append, length-drop, take-append-drop}
-use lib.Seq.{take-at, drop-at, drop-drop, take-add, take-all, take-append-le, length-take-le}
-use borrow.Author.Tests.{leb-true, le-leb, lt-leb, eqb-true, eq-eqb}
+use lib.Seq.{take-at, drop-at, drop-drop, take-add, take-all, length-take-le}
+use borrow.Author.Tests.{leb-true, le-leb, eqb-true, eq-eqb}
 use Rattle.bits.specs.Bits.{digits, num, clear, bits, pack, octetsFor, Octets}
-use Rattle.bits.proofs.BitLaws.{length-digits, num-lt, num-front, num-clear, num-zero, num-append, digits-num-le, length-bits, bits-append, bits-take, bits-pack, length-pack, pack-octets, pack-unique, octets-take}
-use Rattle.bits.proofs.Tests.{and-left, and-right, both, or-left, or-right, or-else, given}
+use Rattle.bits.proofs.BitLaws.{num-lt, num-front, num-clear, num-zero, num-append, digits-num-le, length-bits, bits-append, bits-take, bits-pack, length-pack, pack-unique, octets-take}
+use Rattle.bits.proofs.Tests.{and-left, and-right, both, or-else, given}
 use Rattle.parity.specs.Crc.{crc}
 use Rattle.parity.proofs.Register.{length-crc}
-use Rattle.definitions.specs.Outcome.{Outcome, refused, ok, unless}
+use Rattle.definitions.specs.Outcome.{refused, ok, unless}
 use Rattle.definitions.specs.Frames.{Format, if1, if2, storage, Frame, known, coreBits, classA, octets, carriesModes, modesAndCrc, header, layout, headerBits, spareBefore, spareAfter, typeIn, qualityIn, coreIn, frameIn, fillBits, fillClear, spareClear, sidGood, fieldsGood, crcGood}
-use Rattle.definitions.specs.Reading.{readWith, readFrame}
+use Rattle.definitions.specs.Reading.{readWith}
 use Rattle.definitions.specs.Claims.{Valid, Begins}
-use Rattle.definitions.proofs.Tables.{known-below, Sized, sized, class-a-within, no-core}
+use Rattle.definitions.proofs.Tables.{known-below, sized}
 
 pub frame-path : (x y : Frame) → x .type ≡ y .type → x .quality ≡ y .quality → x .indication ≡ y .indication → x .request ≡ y .request
     → x .core ≡ y .core → x ≡ y
@@ -340,8 +338,7 @@ read-known single f s x n h =
     let r =
     passed (leb 1 (length s)) (known t) (leb (octets f t) (length s)) (not single || leb (length s) (octets f t)) (spareClear f bs) (fieldsGood f (frameIn f bs)) (crcGood f bs)
     (frameIn f bs, octets f t) (x, n) h in
-    let same : typeIn f (bits s) ≡ x .type = sym (type-frame f bs) ∙ ap (λ (y : Frame × ℕ). y .0 .type) (r .6) in
-    (
+    let same : typeIn f (bits s) ≡ x .type = sym (type-frame f bs) ∙ ap (λ (y : Frame × ℕ). y .0 .type) (r .6) in (
       ap known (sym same) ∙ r .0,
       subst (λ u. octets f u ≤ length s) same (leb-true _ _ (r .1)),
       sym (ap (λ (y : Frame × ℕ). y .1) (r .6)) ∙ ap (octets f) same,

@@ -1,6 +1,6 @@
 -- Facts of the table of types, by one test for each that antt computes over the types below 16. Assumes nothing.
-use mathlib.Core.Path.{_≡_, refl, _∙_, ap, sym}
-use mathlib.Core.Bool.{Bool, true, false, not, _&&_, _||_, cond}
+use mathlib.Core.Path.{_≡_, refl}
+use mathlib.Core.Bool.{Bool, true, not, _&&_, _||_}
 use mathlib.Core.List.{List, [], _∷_}
 use mathlib.Core.Logic.{⊎-elim}
 use Prim.Native.Nat.{ℕ, _+_, _<_, _≤_}
@@ -50,13 +50,6 @@ unfolding known classA coreBits
 class-a-within t k =
     let g = given (known t) _ (every-below 16 (λ t. not (known t) || (leb (classA t) (coreBits t) && leb (classA t) 72)) refl t (known-below t k)) k in
     (leb-true _ _ (and-left _ _ g), leb-true _ _ (and-right (leb (classA t) (coreBits t)) _ g))
-
--- types 14 and 15 have no core
-pub no-core : (t : ℕ) → known t ≡ true → leb t 9 ≡ false → coreBits t ≡ 0
-unfolding known coreBits
-no-core t k h =
-    let g = given (known t) _ (every-below 16 (λ t. not (known t) || (leb t 9 || eqb (coreBits t) 0)) refl t (known-below t k)) k in
-    eqb-true _ _ (rw h at g)
 
 -- the largest core
 pub core-most : (t : ℕ) → known t ≡ true → coreBits t ≤ 477

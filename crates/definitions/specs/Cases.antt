@@ -1,7 +1,7 @@
 -- The cases of document 01, "Bench cases", that are marked P and concern frames.
 use mathlib.Core.Path.{_≡_}
-use mathlib.Core.Bool.{Bool, true, false}
-use mathlib.Core.List.{List, [], _∷_, _++_}
+use mathlib.Core.Bool.{true, false}
+use mathlib.Core.List.{[], _∷_, _++_}
 use Prim.Native.Nat.{ℕ, _-_}
 use lib.ListN.{getD, take, replicate}
 use Rattle.bits.specs.Bits.{digits}

@@ -2,9 +2,9 @@
 use mathlib.Core.Bool.{Bool, true, false, not, _&&_, _||_, cond}
 use mathlib.Core.List.{List, [], _∷_, _++_}
 use Prim.Native.Nat.{ℕ, _+_, _-_, _*_}
-use lib.ListN.{length, take, drop}
+use lib.ListN.{take, drop}
 use lib.Dec.{eqb, leb}
-use Rattle.bits.specs.Bits.{digits, num, clear, bits, pack, octetsFor}
+use Rattle.bits.specs.Bits.{digits, num, clear, pack, octetsFor}
 use Rattle.parity.specs.Crc.{crc}
 
 -- document 01's formats 1, 2 and 3; its stored frame is RFC 4867's storage format

@@ -1,6 +1,6 @@
 -- Reading and building one frame (document 01, "The frame", "Refused because of the input" and "Order").
 use mathlib.Core.Bool.{Bool, true, false, not, _&&_, _||_}
-use mathlib.Core.List.{List, [], _∷_, _++_}
+use mathlib.Core.List.{List, _++_}
 use Prim.Native.Nat.{ℕ, zero, suc, _-_, _*_}
 use lib.ListN.{length, take, drop}
 use lib.Dec.{eqb, leb}

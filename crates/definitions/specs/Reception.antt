@@ -2,7 +2,7 @@
 use mathlib.Core.Bool.{Bool, true, false, _&&_, cond}
 use Prim.Native.Nat.{ℕ}
 use lib.Dec.{eqb, leb}
-use Rattle.definitions.specs.Outcome.{Outcome, refused, ok, unless}
+use Rattle.definitions.specs.Outcome.{Outcome, ok, unless}
 use Rattle.definitions.specs.Frames.{known}
 
 pub data SpeechClass : Type 0 where

@@ -6,32 +6,27 @@ ghost use Rattle.definitions.specs.Reading.{readFrame, readWith, buildFr
 ghost use Rattle.definitions.specs.Claims.{ReadsFrames, ReadsOneFrame, WrongReaders, LayoutsDiffer, BuildsFrames};
 ghost use Rattle.definitions.specs.Cases.{BenchCases};
 
-// Demand 2 for a frame that is read where more may follow, and what is no such reader.
+// Does nothing. Its contract: demand 2 for a frame that is read where more may follow, and what is no such reader.
 pub fn reader_claim()
     ensures { λ _. ⌜ ReadsFrames readFrame × WrongReaders ⌝ }
-{
-}
+{}
 
-// Demand 2 for a call that reads one frame.
+// Does nothing. Its contract: demand 2 for a call that reads one frame.
 pub fn single_reader_claim()
     ensures { λ _. ⌜ ReadsOneFrame (readWith true) ⌝ }
-{
-}
+{}
 
-// Layouts are prefix-free, and so injective.
+// Does nothing. Its contract: layouts are prefix-free, and so injective.
 pub fn layout_claim()
     ensures { λ _. ⌜ LayoutsDiffer ⌝ }
-{
-}
+{}
 
-// Demand 2 for a call that builds a frame.
+// Does nothing. Its contract: demand 2 for a call that builds a frame.
 pub fn builder_claim()
     ensures { λ _. ⌜ BuildsFrames buildFrame ⌝ }
-{
-}
+{}
 
-// Document 01's bench cases that are marked P.
+// Does nothing. Its contract: document 01's bench cases that are marked P.
 pub fn bench_claim()
     ensures { λ _. ⌜ BenchCases ⌝ }
-{
-}
+{}

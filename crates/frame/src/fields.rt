@@ -1,6 +1,6 @@
 // Refusal 6's test: the modes of a frame that is read or to be built.
-use crate::table::carries_modes;
 use crate::Format;
+use crate::table::carries_modes;
 ghost use mathlib.Core.Path.{_≡_};
 ghost use mathlib.Core.Bool.{Bool};
 ghost use mathlib.Core.List.{List};

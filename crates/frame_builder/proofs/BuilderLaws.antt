@@ -1,26 +1,26 @@
 -- The octets that the builder stores are the layout: each header octet is its fields' digits, and the core is packed behind them. Each
 -- refusal of a building call follows from the tests made before it. Assumes nothing.
-use mathlib.Core.Path.{_≡_, refl, sym, ap, ap₂, _∙_, subst}
-use mathlib.Core.Bool.{Bool, true, false, not, _&&_, _||_, cond}
+use mathlib.Core.Path.{_≡_, refl, sym, ap, ap₂, _∙_}
+use mathlib.Core.Bool.{Bool, true, false}
 use mathlib.Core.List.{List, [], _∷_, _++_, append-assoc, append-nil}
 use Prim.Native.Nat.{ℕ, zero, suc, _+_, _-_, _*_, _/_, _<_, _≤_}
-use native.Mathlib.Nat.{add-zero, zero-lt-suc, sub-zero}
+use native.Mathlib.Nat.{add-zero, zero-lt-suc}
 use native.Mathlib.Omega.{arith}
-use lib.Dec.{eqb, leb}
-use lib.ListN.{length, getD, set, take, drop, length-append, length-drop, length-set}
-use lib.Seq.{take-at, drop-at, take-all, take-take, take-append-le, drop-set-lt, length-take-le}
+use lib.Dec.{eqb}
+use lib.ListN.{length, set, take, drop, length-drop}
+use lib.Seq.{drop-at, take-all, take-take, take-append-le, drop-set-lt, length-take-le}
 use borrow.Author.Tests.{le-leb, lt-leb, eq-eqb, ne-eqb}
 use Rattle.bits.specs.Bits.{digits, num, clear, bits, pack, octetsFor, Octets}
-use Rattle.bits.proofs.BitLaws.{digits-join, length-digits, length-bits, bits-set, bits-take, pack-bits, pack-append, pack-octets, take-packed, octets-take, num-within}
+use Rattle.bits.proofs.BitLaws.{digits-join, length-digits, length-bits, bits-set, bits-take, pack-bits, pack-append, take-packed, octets-take, num-within}
 use Rattle.parity.specs.Crc.{crc}
 use Rattle.parity.proofs.Guarded.{octet-bits}
-use Rattle.definitions.specs.Outcome.{Outcome, refused, ok, unless, andThen}
+use Rattle.definitions.specs.Outcome.{refused, ok, andThen}
 use Rattle.definitions.specs.Frames.{Format, if1, if2, storage, Frame, known, coreBits, classA, octets, coreOctets, carriesModes, modesAndCrc, header, layout, headerBits, spareBefore, fieldsGood}
 use Rattle.definitions.specs.Reading.{frameOf, buildCheck, buildFrame, counted, outputAfter}
-use Rattle.definitions.proofs.Tables.{known-below, sized, class-a-within, core-most}
-use Rattle.definitions.proofs.Frames.{size-layout, fields-good, length-header}
+use Rattle.definitions.proofs.Tables.{sized, class-a-within, core-most}
+use Rattle.definitions.proofs.Frames.{size-layout, fields-good}
 use Rattle.definitions.proofs.Claims.{check-known}
-use Rattle.frame.specs.Answers.{numberOf, frameBy, frameWith, bufferCore, readingOf, builtOf}
+use Rattle.frame.specs.Answers.{numberOf, frameWith, bufferCore, readingOf}
 use Rattle.frame_builder.specs.Output.{IntoOutput, runFrame, Writable}
 use Rattle.frame.specs.declared.FrameHeader.{FrameHeader}
 use Rattle.frame.specs.declared.Refusal.{Refusal}

@@ -1,13 +1,21 @@
 // Building one frame: judged first, then written. `build_if1`, `build_if2` and `build_storage` are entries; `write_frame`, the one place
 // where a frame's octets are made, is `pub` for the crates that convert recordings.
+use frame::Built;
+use frame::Format;
+use frame::FrameHeader;
+use frame::Reading;
+use frame::Refusal;
 use frame::fields::fields_good;
-use frame::table::{carries_modes, class_a, core_bits, header_bits, octets_of};
-use frame::{Built, Format, FrameHeader, Reading, Refusal};
+use frame::table::carries_modes;
+use frame::table::class_a;
+use frame::table::core_bits;
+use frame::table::header_bits;
+use frame::table::octets_of;
 ghost use mathlib.Core.Path.{_≡_};
 ghost use mathlib.Core.Bool.{true, false};
 ghost use mathlib.Core.List.{_++_};
-ghost use Prim.Native.Nat.{ℕ, _+_, _-_, _*_, _<_, _≤_};
-ghost use lib.ListN.{length, take, drop};
+ghost use Prim.Native.Nat.{ℕ, _+_, _-_, _*_, _<_};
+ghost use lib.ListN.{length, drop};
 ghost use Rattle.bits.specs.Bits.{digits, bits, octetsFor, clear};
 ghost use Rattle.definitions.specs.Frames.{if1, if2, storage, coreBits, octets, carriesModes, spareBefore, layout, fieldsGood};
 ghost use Rattle.definitions.specs.Reading.{buildCheck, buildFrame};

@@ -2,15 +2,14 @@
 use mathlib.Core.Path.{_≡_, refl, sym, ap, ap₂, _∙_, subst}
 use mathlib.Core.Bool.{Bool, true}
 use mathlib.Core.List.{List, _++_}
-use Prim.Native.Nat.{ℕ, zero, suc, _+_, _/_, _<_, _≤_}
+use Prim.Native.Nat.{ℕ, _+_, _/_, _<_, _≤_}
 use native.Mathlib.Nat.{zero-add}
-use native.Mathlib.Omega.{arith}
 use lib.ListN.{length, take, drop}
 use borrow.Author.Tests.{le-leb, lt-leb}
 use Rattle.bits.specs.Bits.{bits, pack, octetsFor}
 use Rattle.bits.proofs.BitLaws.{length-pack, take-packed}
 use Rattle.definitions.specs.Outcome.{Outcome, refused, ok, unless, andThen}
-use Rattle.definitions.specs.Frames.{Format, if1, if2, storage, Frame, known, octets, coreBits, coreOctets, coreIn}
+use Rattle.definitions.specs.Frames.{Frame, known, octets, coreBits, coreOctets, coreIn}
 use Rattle.definitions.specs.Reading.{readWith, formatNumbered, intoBuffer, readCall, coreAfter}
 use Rattle.definitions.proofs.Frames.{read-known}
 use Rattle.frame.specs.Answers.{formatOf, numberOf, frameWith, readingOf, bufferCore, foundOf}

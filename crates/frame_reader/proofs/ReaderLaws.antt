@@ -1,19 +1,18 @@
 -- What the reader's tests compute is what the definition asks, and each refusal follows from the tests made before it. Assumes nothing.
-use mathlib.Core.Path.{_≡_, refl, sym, ap, ap₂, _∙_}
-use mathlib.Core.Bool.{Bool, true, false, not, _&&_, _||_, cond}
+use mathlib.Core.Path.{_≡_, sym, ap, ap₂, _∙_}
+use mathlib.Core.Bool.{Bool, true, false, not, _||_}
 use mathlib.Core.List.{List}
 use Prim.Native.Nat.{ℕ, _+_, _-_, _*_, _<_, _≤_}
 use native.Mathlib.Omega.{arith}
 use lib.Dec.{eqb, leb}
 use lib.ListN.{length, take, drop, length-drop}
 use lib.Seq.{drop-drop, take-take, take-all}
-use borrow.Author.Tests.{leb-true, le-leb, lt-leb, eqb-true, eq-eqb, ne-eqb}
-use Rattle.bits.specs.Bits.{num, bits, octetsFor}
-use Rattle.bits.proofs.BitLaws.{num-lt, num-within, bits-drop}
-use Rattle.bits.proofs.Tests.{given, every-below}
+use borrow.Author.Tests.{le-leb, lt-leb, eq-eqb, ne-eqb}
+use Rattle.bits.specs.Bits.{num, bits}
+use Rattle.bits.proofs.BitLaws.{num-within, bits-drop}
 use Rattle.parity.specs.Crc.{crc}
-use Rattle.definitions.specs.Outcome.{Outcome, refused, ok, unless}
-use Rattle.definitions.specs.Frames.{Format, if1, if2, storage, Frame, known, coreBits, classA, octets, carriesModes, headerBits, spareBefore, spareAfter, typeIn, coreIn, frameIn, fillClear, spareClear, sidGood, uncarriedZero, fieldsGood, crcGood}
+use Rattle.definitions.specs.Outcome.{refused, ok}
+use Rattle.definitions.specs.Frames.{Format, known, coreBits, classA, octets, carriesModes, headerBits, spareBefore, spareAfter, typeIn, coreIn, frameIn, fillClear, spareClear, fieldsGood, crcGood}
 use Rattle.definitions.specs.Reading.{readWith}
 use Rattle.frame.specs.Answers.{frameWith}
 use Rattle.frame.specs.declared.FrameHeader.{FrameHeader}

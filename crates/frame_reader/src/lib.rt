@@ -1,18 +1,26 @@
 // Reading one frame. Each test of document 01's order is one function, whose answer equals the definition's test; `judge` makes them
 // in that order. `read_frame` is an entry; `read_front` is `pub` for the crates that go over recordings.
+use frame::Format;
+use frame::FormatFound;
+use frame::FrameHeader;
+use frame::Reading;
+use frame::Refusal;
 use frame::fields::fields_good;
-use frame::table::{
-    carries_modes, class_a, core_bits, header_bits, octets_of, spare_after, spare_before,
-};
-use frame::{format_numbered, Format, FormatFound, FrameHeader, Reading, Refusal};
+use frame::format_numbered;
+use frame::table::carries_modes;
+use frame::table::class_a;
+use frame::table::core_bits;
+use frame::table::header_bits;
+use frame::table::octets_of;
+use frame::table::spare_after;
+use frame::table::spare_before;
 ghost use mathlib.Core.Path.{_≡_};
-ghost use mathlib.Core.Bool.{Bool, true, not, _||_, cond};
-ghost use mathlib.Core.List.{List};
-ghost use Prim.Native.Nat.{ℕ, _+_, _<_, _≤_};
+ghost use mathlib.Core.Bool.{true, not, _||_, cond};
+ghost use Prim.Native.Nat.{_+_, _<_, _≤_};
 ghost use lib.Dec.{leb};
 ghost use lib.ListN.{length, drop};
 ghost use Rattle.bits.specs.Bits.{bits, num};
-ghost use Rattle.definitions.specs.Frames.{known, octets, carriesModes, headerBits, typeIn, qualityIn, coreIn, frameIn, fillClear, spareClear, fieldsGood, crcGood};
+ghost use Rattle.definitions.specs.Frames.{known, octets, carriesModes, typeIn, qualityIn, coreIn, frameIn, fillClear, spareClear, fieldsGood, crcGood};
 ghost use Rattle.definitions.specs.Reading.{readWith, readFrame, intoBuffer, readCall};
 ghost use Rattle.frame_reader.specs.Buffer.{IntoBuffer};
 ghost use Rattle.frame.specs.Answers.{formatOf, frameWith, readingOf};

@@ -8,8 +8,12 @@ ghost use Rattle.definitions.specs.Reception.{receptionClass};
 ghost use Rattle.level_two.specs.Flat.{FlatFrame, FlatOutput, answerNumbers, speechNumber, sidNumber, classNumber, classNumbers};
 ghost use Rattle.frame.specs.Answers.{builtOf};
 ghost use Rattle.reception.specs.Classes.{speechOf, sidOf, receptionOf};
-use frame::{Built, Reading};
-use reception::{Classified, Reception, SidClass, SpeechClass};
+use frame::Built;
+use frame::Reading;
+use reception::Classified;
+use reception::Reception;
+use reception::SidClass;
+use reception::SpeechClass;
 
 #[repr(C)]
 pub struct Answer {
@@ -104,14 +108,24 @@ pub extern "C" fn amrwb_build_if1(
 }
 
 #[no_mangle]
-pub extern "C" fn amrwb_build_if2(frame_type: u64, quality: u64, core: &[u8], out: &mut [u8]) -> Answer
+pub extern "C" fn amrwb_build_if2(
+    frame_type: u64,
+    quality: u64,
+    core: &[u8],
+    out: &mut [u8],
+) -> Answer
     ensures { λ r. ⌜ FlatOutput (buildFrame if2 «frame_type» quality 0 0 (now (core .entry)) (length (now (out .entry)))) (now (out .entry)) (now (out .exit)) r ⌝ }
 {
     answer_of(frame_builder::build_if2(frame_type, quality, core, out))
 }
 
 #[no_mangle]
-pub extern "C" fn amrwb_build_stored(frame_type: u64, quality: u64, core: &[u8], out: &mut [u8]) -> Answer
+pub extern "C" fn amrwb_build_stored(
+    frame_type: u64,
+    quality: u64,
+    core: &[u8],
+    out: &mut [u8],
+) -> Answer
     ensures { λ r. ⌜ FlatOutput (buildFrame storage «frame_type» quality 0 0 (now (core .entry)) (length (now (out .entry)))) (now (out .entry)) (now (out .exit)) r ⌝ }
 {
     answer_of(frame_builder::build_storage(frame_type, quality, core, out))

@@ -171,36 +171,7 @@ pub two-places-unseen : countTrue ((true ∷ replicate 247 false) ++ crc (true �
 unfolding countTrue crc xor
 two-places-unseen = refl
 
--- ---- what `differences`, `firstTrue` and `lastTrue` say of places, for the crates above
-
--- a place is true exactly where the words differ
-pub getD-differences : (v w : List Bool) (k : ℕ) → length v ≡ length w → getD (differences v w) k false ≡ xor (getD v k false) (getD w k false)
-unfolding differences xor
-getD-differences [] [] k l = refl
-getD-differences [] (b ∷ w) k l = absurd (omega arith)
-getD-differences (a ∷ v) [] k l = absurd (omega arith)
-getD-differences (a ∷ v) (b ∷ w) zero l = refl
-getD-differences (a ∷ v) (b ∷ w) (suc k) l = getD-differences v w k (omega arith)
-
--- each true place lies from first to last
-pub between : (e : List Bool) (k : ℕ) → getD e k false ≡ true → (firstTrue e ≤ k) × (k ≤ lastTrue e) × (0 < countTrue e)
-unfolding firstTrue lastTrue countTrue
-between [] k t = absurd (false≢true t)
-between (true ∷ e) zero t = (omega arith, omega arith, omega arith)
-between (false ∷ e) zero t = absurd (false≢true t)
-between (true ∷ e) (suc k) t =
-    let p = between e k t in
-    (omega arith, rw (later-suc (countTrue e) (lastTrue e) (p .2)) (omega arith), omega arith)
-between (false ∷ e) (suc k) t =
-    let p = between e k t in
-    (omega arith, rw (later-suc (countTrue e) (lastTrue e) (p .2)) (omega arith), p .2)
-
--- and those two are true places
-pub at-first : (e : List Bool) → 0 < countTrue e → getD e (firstTrue e) false ≡ true
-unfolding firstTrue countTrue
-at-first [] h = absurd (not-suc-le-zero h)
-at-first (true ∷ e) h = refl
-at-first (false ∷ e) h = at-first e h
+-- ---- the last place that is true is true
 
 pub at-last : (e : List Bool) → 0 < countTrue e → getD e (lastTrue e) false ≡ true
 unfolding lastTrue countTrue

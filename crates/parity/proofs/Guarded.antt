@@ -1,15 +1,15 @@
 -- The CRC over what a frame holds, the bits of its core and its CRC octet: an octet is the number of the CRC exactly when its
 -- digits are the CRC, so what `Detects` says of words it says of frames. Assumes nothing.
 use mathlib.Core.Path.{_≡_, sym, ap, ap₂, _∙_}
-use mathlib.Core.Logic.{_≢_, _⊎_, ⊎-elim}
+use mathlib.Core.Logic.{_≢_}
 use mathlib.Core.Bool.{Bool}
 use mathlib.Core.List.{List}
-use Prim.Native.Nat.{ℕ, _+_, _≤_, _<_}
+use Prim.Native.Nat.{ℕ, _+_, _≤_}
 use native.Mathlib.Omega.{arith}
 use lib.ListN.{length, take, drop, length-append}
 use lib.Seq.{take-all, take-at, drop-at, length-take-le}
 use Rattle.bits.specs.Bits.{digits, num}
-use Rattle.bits.proofs.BitLaws.{length-digits, digits-num-le, num-unique}
+use Rattle.bits.proofs.BitLaws.{length-digits, digits-num-le}
 use Rattle.parity.specs.Crc.{crc}
 use Rattle.parity.specs.Places.{differences, countTrue, firstTrue, lastTrue, guarded}
 use Rattle.parity.proofs.Register.{length-crc}
@@ -20,9 +20,6 @@ whole m = take-all 8 (crc m) (omega (arith, length-crc m))
 
 pub octet-bits : (m : List Bool) (c : ℕ) → c ≡ num 8 (crc m) → digits 8 c ≡ crc m
 octet-bits m c e = ap (digits 8) e ∙ digits-num-le 8 (crc m) (omega (arith, length-crc m)) ∙ whole m
-
-pub bits-octet : (m : List Bool) (c : ℕ) → c < 256 → digits 8 c ≡ crc m → c ≡ num 8 (crc m)
-bits-octet m c h e = num-unique 8 c (crc m) h (e ∙ sym (whole m))
 
 module _ (n : ℕ) (d : List Bool) (c : ℕ) (h : n ≤ length d) where
   length-guarded : length (guarded n d c) ≡ n + 8
@@ -42,14 +39,3 @@ pub frames-differ : (n : ℕ) (d d′ : List Bool) (c c′ : ℕ) → n ≤ 247 
     × (firstTrue (differences (guarded n d c) (guarded n d′ c′)) + 8 ≤ lastTrue (differences (guarded n d c) (guarded n d′ c′)))
 frames-differ n d d′ c c′ h l l′ e e′ =
     detects .differ n (guarded n d c) (guarded n d′ c′) h (length-guarded n d c l) (length-guarded n d′ c′ l′) (guarded-right n d c l e) (guarded-right n d′ c′ l′ e′)
-
--- So a frame that differs from one with a right CRC octet in one or two of those places, or in places that fit in eight
--- neighbouring ones, has a wrong CRC octet
-pub frame-refused : (n : ℕ) (d d′ : List Bool) (c c′ : ℕ) → n ≤ 247 → n ≤ length d → n ≤ length d′
-    → c ≡ num 8 (crc (take n d)) → guarded n d c ≢ guarded n d′ c′
-    → (countTrue (differences (guarded n d c) (guarded n d′ c′)) ≤ 2)
-    ⊎ (lastTrue (differences (guarded n d c) (guarded n d′ c′)) ≤ firstTrue (differences (guarded n d c) (guarded n d′ c′)) + 7)
-    → c′ ≢ num 8 (crc (take n d′))
-frame-refused n d d′ c c′ h l l′ e ne few e′ =
-    let p = frames-differ n d d′ c c′ h l l′ e e′ ne in
-    ⊎-elim (λ z. omega arith) (λ z. omega arith) few

@@ -1,6 +1,7 @@
 // The reception class of a frame, by its type, quality and STI. `reception_class` is an entry.
+use frame::Format;
+use frame::Refusal;
 use frame::table::octets_of;
-use frame::{Format, Refusal};
 ghost use mathlib.Core.Path.{_≡_};
 ghost use Rattle.definitions.specs.Reception.{speechClass, sidClass, classOf, receptionClass};
 ghost use Rattle.reception.specs.Classes.{speechOf, sidOf, receptionOf, classifiedOf};

@@ -1,11 +1,9 @@
--- `bits::bit_at` meets its contract. Assumes nothing.
+-- `bits::bit_at` meets its contract: the shift brings the bit down, and the mask keeps it. Assumes nothing.
 use borrow.Author.Needs.{needs}
 use native.Mathlib.Omega.{arith}
 use Rattle.bits.proofs.Masks.{low3, bit-is}
 use Rattle.bits.proofs.bit_at.Statement.{statement}
 use Rattle.bits.proofs.bit_at.Tie as tie
-use Rattle.bits.proofs.bit_at.Reads as reads
-use Rattle.bits.proofs.bit_at.Lts as lts
 
 shared-slice-read-x : tie.Need-shared-slice-read-x
 shared-slice-read-x c = search needs

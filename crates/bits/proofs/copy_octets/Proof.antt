@@ -1,18 +1,14 @@
--- `bits::copy_octets` meets its contract. Assumes nothing.
+-- `bits::copy_octets` meets its contract: a run that starts at a border is copied whole, any other shifted. Assumes nothing.
 use borrow.Author.Needs.{needs}
 use native.Mathlib.Omega.{arith}
 use mathlib.Core.Path.{_≡_, ap, _∙_}
-use Prim.Native.Nat.{ℕ, _+_, _*_, _/_, _-_, _%_, _^_, _≤_}
+use Prim.Native.Nat.{ℕ, _+_, _*_, _/_, _-_}
 use lib.ListN.{drop}
 use lib.Bits.{bitAnd}
 use Rattle.bits.specs.Bits.{bits, copied}
 use Rattle.bits.proofs.Masks.{low3}
 use Rattle.bits.proofs.copy_octets.Statement.{statement}
 use Rattle.bits.proofs.copy_octets.Tie as tie
-use Rattle.bits.proofs.copy_octets.Reads as reads
-use Rattle.bits.proofs.copy_octets.Lts as lts
-use Rattle.bits.proofs.copy_shifted.Reads as copy-shifted-reads
-use Rattle.bits.proofs.copy_whole.Reads as copy-whole-reads
 
 copy-whole-requires : tie.Need-copy-whole-requires
 copy-whole-requires c κs = search needs

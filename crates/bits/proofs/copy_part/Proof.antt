@@ -1,4 +1,4 @@
--- `bits::copy_part` meets its contract. Assumes nothing.
+-- `bits::copy_part` meets its contract: the field of the source goes into one octet of the target, as `part` says. Assumes nothing.
 use borrow.Author.Needs.{needs}
 use native.Mathlib.Omega.{arith}
 use mathlib.Core.Path.{_≡_, sym, ap, _∙_}
@@ -10,35 +10,25 @@ use Rattle.bits.proofs.BitLaws.{num-lt, copied-zero}
 use Rattle.bits.proofs.Masks.{low3, part}
 use Rattle.bits.proofs.copy_part.Statement.{statement}
 use Rattle.bits.proofs.copy_part.Tie as tie
-use Rattle.bits.proofs.copy_part.Reads as reads
-use Rattle.bits.proofs.copy_part.Lts as lts
-use Rattle.bits.proofs.field_at.Reads as field-at-reads
-use Rattle.bits.proofs.with_field.Reads as with-field-reads
 
--- src/lib.rt:73:13
 field-at-requires : tie.Need-field-at-requires
 field-at-requires c κs = search needs
 
--- src/lib.rt:75:17
 slice-read-x : tie.Need-slice-read-x
 slice-read-x c = search needs
 
--- src/lib.rt:76:18
 with-field-requires : tie.Need-with-field-requires
 with-field-requires c κs =
     let a = c .before .before .before .before .before .args in
     let e : bitAnd (c .before .before .before .before .before .args .at) 7 ≡ c .before .before .before .before .before .args .at % 8 = low3 (a .at) in
     (omega arith, rw (c .before .field-at .ensures) (num-lt (a .k) _))
 
--- src/lib.rt:76:9
 slice-write-dst : tie.Need-slice-write-dst
 slice-write-dst c = search needs
 
--- src/lib.rt:68:1
 same-length : tie.Need-same-length
 same-length c = search needs
 
--- src/lib.rt:68:1
 returns : tie.Need-returns
 returns c =
     let start = c .before .before .before .before .before .before in
@@ -46,7 +36,6 @@ returns c =
     let e = low3 (a .at) in
     part (a .src .now) (a .dst .now) (a .from) (a .at) (a .k) (c .before .before .field-at .result) (c .with-field .result) (start .pre .1) (start .pre .2) (omega arith) (omega arith) (c .before .before .field-at .ensures) (c .with-field .ensures)
 
--- src/lib.rt:68:1
 returns-2 : tie.Need-returns-2
 returns-2 c =
     let a = c .before .before .before .args in

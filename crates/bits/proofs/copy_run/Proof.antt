@@ -1,18 +1,13 @@
--- `bits::copy_run` meets its contract. Assumes nothing.
+-- `bits::copy_run` meets its contract: the run is three copies: up to a border, whole octets, and the rest. Assumes nothing.
 use borrow.Author.Needs.{needs}
 use native.Mathlib.Omega.{arith}
-use mathlib.Core.Path.{_≡_, ap, _∙_}
-use Prim.Native.Nat.{ℕ, _+_, _*_, _/_, _-_, _%_, _^_, _≤_}
-use lib.ListN.{drop}
+use mathlib.Core.Path.{ap, _∙_}
+use Prim.Native.Nat.{ℕ, _+_, _*_, _/_, _-_, _%_, _^_}
 use lib.Bits.{bitAnd}
-use Rattle.bits.specs.Bits.{bits, copied}
+use Rattle.bits.specs.Bits.{bits}
 use Rattle.bits.proofs.Masks.{low3, three, rest-fits}
 use Rattle.bits.proofs.copy_run.Statement.{statement}
 use Rattle.bits.proofs.copy_run.Tie as tie
-use Rattle.bits.proofs.copy_run.Reads as reads
-use Rattle.bits.proofs.copy_run.Lts as lts
-use Rattle.bits.proofs.copy_octets.Reads as copy-octets-reads
-use Rattle.bits.proofs.copy_part.Reads as copy-part-reads
 
 sub-gap : tie.Need-sub-gap
 sub-gap c = omega (arith, low3 (c .before .before .args .at))

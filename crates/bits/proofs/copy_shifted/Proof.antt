@@ -1,4 +1,4 @@
--- `bits::copy_shifted` meets its contract. Assumes nothing.
+-- `bits::copy_shifted` meets its contract: each turn stores one octet made of two neighbours, as `octet-turn` says. Assumes nothing.
 use borrow.Author.Needs.{needs}
 use mathlib.Core.Path.{_≡_, refl, sym, ap, _∙_}
 use Prim.Native.Nat.{ℕ, _+_, _*_, _-_, _/_, _%_, _≤_, _<_, _^_}

@@ -1,7 +1,7 @@
--- `bits::copy_whole` meets its contract. Assumes nothing.
+-- `bits::copy_whole` meets its contract: each turn stores one octet, as `octet-turn` says. Assumes nothing.
 use borrow.Author.Needs.{needs}
 use mathlib.Core.Path.{_≡_, refl, sym, ap, _∙_}
-use Prim.Native.Nat.{ℕ, _+_, _*_, _-_, _/_, _%_, _≤_, _<_, _^_}
+use Prim.Native.Nat.{ℕ, _+_, _*_, _-_, _≤_, _<_}
 use native.Mathlib.Omega.{arith}
 use mathlib.Core.List.{List}
 use lib.ListN.{length, getD, drop, length-set}

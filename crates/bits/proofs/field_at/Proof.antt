@@ -1,18 +1,16 @@
--- `bits::field_at` meets its contract. Assumes nothing.
+-- `bits::field_at` meets its contract: the field lies within two octets, which are read as one number; past the end the second is 0. Assumes nothing.
 use borrow.Author.Needs.{needs}
 use native.Mathlib.Omega.{arith}
-use Prim.Native.Nat.{ℕ, _-_, _+_, _/_, _^_, _<_, _≤_}
+use Prim.Native.Nat.{_-_, _+_, _/_}
 use native.Mathlib.Nat.{lt-of-lt-of-le, lt-of-le-of-lt, le-of-eq}
 use mathlib.Core.Path.{_≡_, sym, _∙_}
 use mathlib.Core.Logic.{⊎-elim}
-use lib.ListN.{length, getD, List·getD-eq-default}
+use lib.ListN.{getD, List·getD-eq-default}
 use Rattle.bits.proofs.BitLaws.{num-lt}
 use lib.Pow.{pow-pos, pow-mono}
 use Rattle.bits.proofs.Masks.{read-is, low3, one-shl}
 use Rattle.bits.proofs.field_at.Statement.{statement}
 use Rattle.bits.proofs.field_at.Tie as tie
-use Rattle.bits.proofs.field_at.Reads as reads
-use Rattle.bits.proofs.field_at.Lts as lts
 
 shared-slice-read-hi : tie.Need-shared-slice-read-hi
 shared-slice-read-hi c = search needs

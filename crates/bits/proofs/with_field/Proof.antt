@@ -1,4 +1,4 @@
--- `bits::with_field` meets its contract. Assumes nothing.
+-- `bits::with_field` meets its contract: the mask clears the field, and the shifted number goes into it. Assumes nothing.
 use borrow.Author.Needs.{needs}
 use native.Mathlib.Omega.{arith}
 use Rattle.bits.proofs.Masks.{one-shl, shifted-ones-le, put-code-is, put-digits, put-lt}
@@ -8,8 +8,6 @@ use Prim.Native.Nat.{ℕ, _-_}
 use lib.Pow.{pow-pos}
 use Rattle.bits.proofs.with_field.Statement.{statement}
 use Rattle.bits.proofs.with_field.Tie as tie
-use Rattle.bits.proofs.with_field.Reads as reads
-use Rattle.bits.proofs.with_field.Lts as lts
 
 sub-b : tie.Need-sub-b
 sub-b c = search needs

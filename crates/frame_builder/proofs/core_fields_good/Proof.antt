@@ -1,6 +1,6 @@
 -- `frame_builder::core_fields_good` meets its contract: a SID frame's core has five octets, with the mode at its end. Assumes nothing.
 use borrow.Author.Needs.{needs}
-use mathlib.Core.Path.{_≡_, ap, _∙_}
+use mathlib.Core.Path.{ap, _∙_}
 use native.Mathlib.Omega.{arith}
 use Rattle.bits.specs.Bits.{octetsFor}
 use Rattle.definitions.specs.Frames.{coreBits}

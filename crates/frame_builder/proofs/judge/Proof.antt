@@ -13,7 +13,7 @@ use Rattle.frame_builder.proofs.judge.Tie as tie
 -- once the type is known and the core has its octets
 fields-there : (c : tie.After-core-fields-good)
     → let a = c .before .before .before .before .before .before .before .before .before .before .args in
-      c .core-fields-good .result ≡ fieldsGood (formatOf (a .f)) (frameOf (a .t) (a .q) (a .i) (a .r) (a .core .now))
+    c .core-fields-good .result ≡ fieldsGood (formatOf (a .f)) (frameOf (a .t) (a .q) (a .i) (a .r) (a .core .now))
 fields-there c = let a = c .before .before .before .before .before .before .before .before .before .before .args in c .core-fields-good .ensures (a .q)
 
 returns : tie.Need-returns

@@ -1,9 +1,9 @@
 -- `frame_builder::write_modes` meets its contract: the core is put behind 24 bits, and the three header octets are stored before it. Assumes nothing.
 use borrow.Author.Needs.{needs}
-use mathlib.Core.Path.{_≡_, refl, sym, _∙_}
-use Prim.Native.Nat.{_+_, _-_, _*_, _≤_}
+use mathlib.Core.Path.{refl}
+use Prim.Native.Nat.{_+_, _-_, _*_}
 use native.Mathlib.Omega.{arith}
-use lib.ListN.{length, take, drop, set, length-set, length-drop}
+use lib.ListN.{length, drop, set, length-set, length-drop}
 use lib.Seq.{length-take-le}
 use Rattle.definitions.specs.Frames.{if1}
 use Rattle.definitions.proofs.Tables.{known-below, class-a-within}

@@ -1,7 +1,7 @@
 -- `frame_reader::fill_clear` meets its contract: the filling is the last bits of the frame's last octet. Assumes nothing.
 use borrow.Author.Needs.{needs}
-use mathlib.Core.Path.{_≡_, ap₂, _∙_}
-use Prim.Native.Nat.{ℕ, _+_}
+use mathlib.Core.Path.{ap₂}
+use Prim.Native.Nat.{_+_}
 use native.Mathlib.Omega.{arith}
 use Rattle.frame.specs.Answers.{formatOf}
 use Rattle.definitions.proofs.Tables.{known-below, sized}

@@ -1,10 +1,9 @@
 -- `frame_reader::header_good` meets its contract: the SID mode is read where the type is 9, and does not count elsewhere. Assumes nothing.
 use borrow.Author.Needs.{needs}
-use mathlib.Core.Path.{_≡_, sym, ap, _∙_}
-use Prim.Native.Nat.{_≤_}
-use lib.ListN.{length, drop}
+use mathlib.Core.Path.{sym, ap, _∙_}
+use lib.ListN.{drop}
 use Rattle.bits.specs.Bits.{num, bits}
-use Rattle.definitions.specs.Frames.{octets, coreIn}
+use Rattle.definitions.specs.Frames.{coreIn}
 use Rattle.frame.specs.Answers.{formatOf}
 use Rattle.frame_reader.proofs.header_good.Statement.{statement}
 use Rattle.frame_reader.proofs.header_good.Tie as tie

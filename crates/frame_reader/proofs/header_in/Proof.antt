@@ -1,6 +1,6 @@
 -- `frame_reader::header_in` meets its contract, field by field. Assumes nothing.
 use borrow.Author.Needs.{needs}
-use mathlib.Core.Path.{refl, ap, _∙_}
+use mathlib.Core.Path.{ap, _∙_}
 use native.Mathlib.Omega.{arith}
 use Rattle.bits.specs.Bits.{num, bits}
 use mathlib.Core.Bool.{cond}

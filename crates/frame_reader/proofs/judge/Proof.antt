@@ -42,9 +42,9 @@ whole-there c = record {
 -- the header's frame is the frame that is read
 header-there : (c : tie.After-header-in)
     → let a = c .before .before .before .before .before .before .before .before .before .before .before .args in
-      let h = c .header-in .result in
-      (h .«frame_type» ≡ c .before .before .before .before .before .before .before .before .type-in .result)
-      × (frameWith h (coreIn (formatOf (a .f)) (h .«frame_type») (bits (a .s .now))) ≡ frameIn (formatOf (a .f)) (bits (a .s .now)))
+    let h = c .header-in .result in
+    (h .«frame_type» ≡ c .before .before .before .before .before .before .before .before .type-in .result)
+    × (frameWith h (coreIn (formatOf (a .f)) (h .«frame_type») (bits (a .s .now))) ≡ frameIn (formatOf (a .f)) (bits (a .s .now)))
 header-there c =
     let a = c .before .before .before .before .before .before .before .before .before .before .before .args in
     let ty = c .before .before .before .before .before .before .before .before .type-in in

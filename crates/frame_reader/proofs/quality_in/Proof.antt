@@ -2,7 +2,6 @@
 use borrow.Author.Needs.{needs}
 use mathlib.Core.Path.{ap, _∙_}
 use Prim.Native.Nat.{_+_}
-use native.Mathlib.Omega.{arith}
 use lib.ListN.{drop}
 use Rattle.bits.specs.Bits.{num, bits}
 use Rattle.frame_reader.proofs.quality_in.Statement.{statement}

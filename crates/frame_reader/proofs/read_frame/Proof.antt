@@ -1,6 +1,5 @@
 -- `frame_reader::read_frame` meets its contract: the format, the frame and its core are judged one after the other. Assumes nothing.
 use borrow.Author.Needs.{needs}
-use Rattle.frame.specs.Answers.{formatOf}
 use Rattle.frame_reader.proofs.CallLaws.{unknown-format, refused-frame, known-there, frame-out}
 use Rattle.frame_reader.proofs.read_frame.Statement.{statement}
 use Rattle.frame_reader.proofs.read_frame.Tie as tie

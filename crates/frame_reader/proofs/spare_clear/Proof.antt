@@ -1,6 +1,5 @@
 -- `frame_reader::spare_clear` meets its contract: the spare bits in front, those behind the quality, and the filling. Assumes nothing.
 use borrow.Author.Needs.{needs}
-use mathlib.Core.Path.{_≡_}
 use native.Mathlib.Omega.{arith}
 use Rattle.bits.specs.Bits.{bits}
 use Rattle.frame.specs.Answers.{formatOf}

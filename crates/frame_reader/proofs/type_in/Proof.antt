@@ -1,7 +1,6 @@
 -- `frame_reader::type_in` meets its contract: the type stands behind the spare bits in front. Assumes nothing.
 use borrow.Author.Needs.{needs}
 use mathlib.Core.Path.{ap, _∙_}
-use native.Mathlib.Omega.{arith}
 use lib.ListN.{drop}
 use Rattle.bits.specs.Bits.{num, bits}
 use Rattle.frame_reader.proofs.type_in.Statement.{statement}

@@ -1,9 +1,8 @@
 -- `reception::class_of` meets its contract, by the type. Assumes nothing.
 use borrow.Author.Needs.{needs}
-use mathlib.Core.Path.{sym, ap, ap₂, _∙_}
-use mathlib.Core.Bool.{cond}
+use mathlib.Core.Path.{ap}
 use borrow.Author.Tests.{le-leb, lt-leb, eq-eqb, ne-eqb}
-use Rattle.definitions.specs.Reception.{speech, sid, speech-lost, no-data, speechClass, sidClass}
+use Rattle.definitions.specs.Reception.{speech, sid}
 use Rattle.reception.proofs.class_of.Statement.{statement}
 use Rattle.reception.proofs.class_of.Tie as tie
 

@@ -1,6 +1,6 @@
 -- `reception::reception_class` meets its contract: the numbers, then the type, then its class. Assumes nothing.
 use borrow.Author.Needs.{needs}
-use mathlib.Core.Path.{_≡_, sym, ap, _∙_}
+use mathlib.Core.Path.{sym, ap, _∙_}
 use native.Mathlib.Omega.{arith}
 use borrow.Author.Tests.{le-leb, lt-leb}
 use Rattle.definitions.specs.Outcome.{ok}
@@ -36,8 +36,12 @@ unfolding receptionClass
 returns-4 c =
     let a = c .before .before .before .before .before .args in
     let n = c .before .octets-of in
-    rw (le-leb (a .t) 15 (c .before .before .before .before .if1 .left), le-leb (a .q) 1 (c .before .before .before .if2 .left), le-leb (a .sti) 1 (c .before .before .if3 .left),
-    no-octets-reserved if2 (a .t) (omega arith) (sym (n .ensures .0) ∙ c .if4 .taken))
+    rw (
+      le-leb (a .t) 15 (c .before .before .before .before .if1 .left),
+      le-leb (a .q) 1 (c .before .before .before .if2 .left),
+      le-leb (a .sti) 1 (c .before .before .if3 .left),
+      no-octets-reserved if2 (a .t) (omega arith) (sym (n .ensures .0) ∙ c .if4 .taken),
+    )
 
 class-of-requires : tie.Need-class-of-requires
 class-of-requires c κs = search needs
@@ -47,8 +51,12 @@ unfolding receptionClass
 returns-5 c =
     let a = c .before .before .before .before .before .before .args in
     let n = c .before .before .octets-of in
-    rw (le-leb (a .t) 15 (c .before .before .before .before .before .if1 .left), le-leb (a .q) 1 (c .before .before .before .before .if2 .left), le-leb (a .sti) 1 (c .before .before .before .if3 .left),
-    octets-not-reserved if2 (a .t) (omega arith) (λ z. c .before .if4 .left (n .ensures .0 ∙ z))) (ap ok (c .class-of .ensures))
+    rw (
+      le-leb (a .t) 15 (c .before .before .before .before .before .if1 .left),
+      le-leb (a .q) 1 (c .before .before .before .before .if2 .left),
+      le-leb (a .sti) 1 (c .before .before .before .if3 .left),
+      octets-not-reserved if2 (a .t) (omega arith) (λ z. c .before .if4 .left (n .ensures .0 ∙ z)),
+    ) (ap ok (c .class-of .ensures))
 
 pub reception-class-spec : {M : Type 1} → statement M
 reception-class-spec =

@@ -1,5 +1,5 @@
 -- `fields::sid_good` meets its contract, test by test. Assumes nothing.
-use mathlib.Core.Path.{_∙_, sym, ap, ap₂}
+use mathlib.Core.Path.{sym, ap, ap₂}
 use mathlib.Core.Bool.{not, _&&_, _||_}
 use lib.Dec.{eqb, leb}
 use borrow.Author.Tests.{eq-eqb, ne-eqb}
