@@ -1,5 +1,5 @@
 -- The code's table of types is document 01's: one test that antt computes over the 80 entries. Assumes nothing.
-use mathlib.Core.Path.{_≡_, refl, ap₂, _∙_}
+use mathlib.Core.Path.{_≡_, refl, sym, ap₂, _∙_}
 use mathlib.Core.Bool.{Bool, true, _&&_}
 use mathlib.Core.List.{List, [], _∷_}
 use Prim.Native.Nat.{ℕ, _+_, _*_, _/_, _%_, _<_, _≤_}
@@ -12,41 +12,53 @@ use Rattle.definitions.specs.Frames.{coreBits, classA, octets}
 use Rattle.frame.specs.Columns.{column}
 
 -- `TYPES` of src/table.rt
-abbrev types : List ℕ
+abbrev types : List (List ℕ)
 types =
-    132 ∷ 54 ∷ 20 ∷ 18 ∷ 18 ∷
-    177 ∷ 64 ∷ 26 ∷ 23 ∷ 24 ∷
-    253 ∷ 72 ∷ 35 ∷ 33 ∷ 33 ∷
-    285 ∷ 72 ∷ 39 ∷ 37 ∷ 37 ∷
-    317 ∷ 72 ∷ 43 ∷ 41 ∷ 41 ∷
-    365 ∷ 72 ∷ 49 ∷ 47 ∷ 47 ∷
-    397 ∷ 72 ∷ 53 ∷ 51 ∷ 51 ∷
-    461 ∷ 72 ∷ 61 ∷ 59 ∷ 59 ∷
-    477 ∷ 72 ∷ 63 ∷ 61 ∷ 61 ∷
-    40 ∷ 40 ∷ 8 ∷ 6 ∷ 6 ∷
-    0 ∷ 0 ∷ 0 ∷ 0 ∷ 0 ∷
-    0 ∷ 0 ∷ 0 ∷ 0 ∷ 0 ∷
-    0 ∷ 0 ∷ 0 ∷ 0 ∷ 0 ∷
-    0 ∷ 0 ∷ 0 ∷ 0 ∷ 0 ∷
-    0 ∷ 0 ∷ 1 ∷ 1 ∷ 1 ∷
-    0 ∷ 0 ∷ 1 ∷ 1 ∷ 1 ∷ []
+    (132 ∷ 54 ∷ 20 ∷ 18 ∷ 18 ∷ [])
+    ∷ (177 ∷ 64 ∷ 26 ∷ 23 ∷ 24 ∷ [])
+    ∷ (253 ∷ 72 ∷ 35 ∷ 33 ∷ 33 ∷ [])
+    ∷ (285 ∷ 72 ∷ 39 ∷ 37 ∷ 37 ∷ [])
+    ∷ (317 ∷ 72 ∷ 43 ∷ 41 ∷ 41 ∷ [])
+    ∷ (365 ∷ 72 ∷ 49 ∷ 47 ∷ 47 ∷ [])
+    ∷ (397 ∷ 72 ∷ 53 ∷ 51 ∷ 51 ∷ [])
+    ∷ (461 ∷ 72 ∷ 61 ∷ 59 ∷ 59 ∷ [])
+    ∷ (477 ∷ 72 ∷ 63 ∷ 61 ∷ 61 ∷ [])
+    ∷ (40 ∷ 40 ∷ 8 ∷ 6 ∷ 6 ∷ [])
+    ∷ (0 ∷ 0 ∷ 0 ∷ 0 ∷ 0 ∷ [])
+    ∷ (0 ∷ 0 ∷ 0 ∷ 0 ∷ 0 ∷ [])
+    ∷ (0 ∷ 0 ∷ 0 ∷ 0 ∷ 0 ∷ [])
+    ∷ (0 ∷ 0 ∷ 0 ∷ 0 ∷ 0 ∷ [])
+    ∷ (0 ∷ 0 ∷ 1 ∷ 1 ∷ 1 ∷ [])
+    ∷ (0 ∷ 0 ∷ 1 ∷ 1 ∷ 1 ∷ [])
+    ∷ []
+
+abbrev at : ℕ → ℕ → ℕ
+at t c = getD (getD types t []) c 0
 
 -- the entry is document 01's, and at most the largest K
 right : ℕ → Bool
-right i = eqb (getD types i 0) (column (i % 5) (i / 5)) && leb (getD types i 0) 477
+right i = eqb (at (i / 5) (i % 5)) (column (i % 5) (i / 5)) && leb (at (i / 5) (i % 5)) 477
 
 module _ (t c : ℕ) (ht : t < 16) (hc : c < 5) where
+  row : (t * 5 + c) / 5 ≡ t
+  row = omega arith
+
+  place : (t * 5 + c) % 5 ≡ c
+  place = omega arith
+
   tested : right (t * 5 + c) ≡ true
   unfolding right coreBits classA octets
   tested = every-below 80 right refl (t * 5 + c) (omega arith)
 
-  pub entry-is : getD types (t * 5 + c) 0 ≡ column c t
-  unfolding right
-  entry-is =
-      let e₁ : (t * 5 + c) % 5 ≡ c = omega arith in
-      let e₂ : (t * 5 + c) / 5 ≡ t = omega arith in
-      eqb-true _ _ (and-left _ _ tested) ∙ ap₂ column e₁ e₂
+  here : at t c ≡ at ((t * 5 + c) / 5) ((t * 5 + c) % 5)
+  here = ap₂ at (sym row) (sym place)
 
-  pub entry-most : getD types (t * 5 + c) 0 ≤ 477
+  pub entry-is : at t c ≡ column c t
   unfolding right
-  entry-most = leb-true _ _ (and-right (eqb (getD types (t * 5 + c) 0) (column ((t * 5 + c) % 5) ((t * 5 + c) / 5))) _ tested)
+  entry-is = here ∙ eqb-true _ _ (and-left _ _ tested) ∙ ap₂ column place row
+
+  pub entry-most : at t c ≤ 477
+  unfolding right
+  entry-most =
+      let i : ℕ = t * 5 + c in
+      rw here (leb-true _ _ (and-right (eqb (at (i / 5) (i % 5)) (column (i % 5) (i / 5))) _ tested))

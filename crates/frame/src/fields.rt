@@ -10,17 +10,23 @@ ghost use Rattle.bits.specs.Bits.{num};
 ghost use Rattle.definitions.specs.Frames.{sidGood, uncarriedZero, fieldsGood};
 ghost use Rattle.frame.specs.Answers.{formatOf, frameBy};
 
+// The type of a SID frame.
+const SID: u64 = 9;
+
+// The highest mode.
+const HIGHEST_MODE: u64 = 8;
+
 // Of a SID frame the indication is 0, and the mode at most 8.
 fn sid_good(t: u64, i: u64, mode: u64) -> bool
     ensures { λ r. ⌜ r ≡ sidGood t i mode ⌝ }
 {
-    if t != 9 {
+    if t != SID {
         return true;
     }
     if i != 0 {
         return false;
     }
-    mode <= 8
+    mode <= HIGHEST_MODE
 }
 
 // A field that the frame does not carry is 0.
@@ -40,10 +46,10 @@ fn uncarried_zero(f: Format, t: usize, i: u64, r: u64) -> bool
 pub fn fields_good(f: Format, t: u64, i: u64, r: u64, mode: u64) -> bool
     ensures { λ b. ⌜ ((q : ℕ) (core : List Bool) → (t ≡ 9 → mode ≡ num 4 (drop 36 core)) → b ≡ fieldsGood (formatOf f) (frameBy t q i r core)) ⌝ }
 {
-    if 8 < i {
+    if HIGHEST_MODE < i {
         return false;
     }
-    if 8 < r {
+    if HIGHEST_MODE < r {
         return false;
     }
     if !sid_good(t, i, mode) {

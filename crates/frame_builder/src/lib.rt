@@ -22,6 +22,16 @@ ghost use Rattle.definitions.specs.Reading.{buildCheck, buildFrame};
 ghost use Rattle.frame.specs.Answers.{formatOf, frameBy, bufferCore, readingOf};
 ghost use Rattle.frame_builder.specs.Output.{Writable, runFrame, IntoOutput};
 
+// Where IF1 has the core, in bits and in octets.
+const CORE_BIT: usize = 24;
+
+const CORE_AT: usize = 3;
+
+// The type of a SID frame, and where its core has the mode.
+const SID: u64 = 9;
+
+const SID_MODE_AT: usize = 36;
+
 // The octet of type and quality, with spare bits 0.
 fn first_octet(f: Format, t: u8, q: u8) -> u8
     requires { ⌜ (t < 16) × (q < 2) ⌝ }
@@ -51,8 +61,8 @@ fn write_modes(h: FrameHeader, src: &[u8], from: usize, out: &mut [u8])
     ensures { λ _. ⌜ now (out .exit) ≡ layout if1 (runFrame h (now (src .entry)) from) ++ drop (octets if1 (h .«frame_type»)) (now (out .entry)) ⌝ }
 {
     let t = h.frame_type as usize;
-    bits::put_run(src, from, core_bits(t), out, 24);
-    let crc = parity::crc_of(&out[3..], class_a(t));
+    bits::put_run(src, from, core_bits(t), out, CORE_BIT);
+    let crc = parity::crc_of(&out[CORE_AT..], class_a(t));
     out[0] = first_octet(Format::If1, h.frame_type, h.quality);
     out[1] = h.indication * 16 + h.request;
     out[2] = crc;
@@ -87,8 +97,8 @@ fn core_fields_good(f: Format, t: u64, i: u64, r: u64, core: &[u8]) -> bool
     requires { ⌜ length (now core) ≡ octetsFor (coreBits t) ⌝ }
     ensures { λ b. ⌜ ((q : ℕ) → b ≡ fieldsGood (formatOf f) (frameBy t q i r (bufferCore (now (core .entry)) t))) ⌝ }
 {
-    if t == 9 {
-        return fields_good(f, t, i, r, bits::field_at(core, 36, 4) as u64);
+    if t == SID {
+        return fields_good(f, t, i, r, bits::field_at(core, SID_MODE_AT, 4) as u64);
     }
     fields_good(f, t, i, r, 0)
 }

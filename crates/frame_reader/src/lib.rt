@@ -25,6 +25,20 @@ ghost use Rattle.definitions.specs.Reading.{readWith, readFrame, intoBuffer, re
 ghost use Rattle.frame_reader.specs.Buffer.{IntoBuffer};
 ghost use Rattle.frame.specs.Answers.{formatOf, frameWith, readingOf};
 
+// Where IF1 has the indication, the request and the CRC, in bits, and the core, in octets.
+const INDICATION_AT: usize = 8;
+
+const REQUEST_AT: usize = 12;
+
+const CRC_AT: usize = 16;
+
+const CORE_AT: usize = 3;
+
+// The type of a SID frame, and where its core has the mode.
+const SID: usize = 9;
+
+const SID_MODE_AT: usize = 36;
+
 // The type that the first octet names.
 fn type_in(f: Format, s: &[u8]) -> u8
     requires { ⌜ 0 < length (now s) ⌝ }
@@ -59,8 +73,8 @@ fn header_in(f: Format, s: &[u8], t: u8) -> FrameHeader
 {
     let k = t as usize;
     let quality = quality_in(f, s);
-    let indication = mode_in(f, s, k, 8);
-    let request = mode_in(f, s, k, 12);
+    let indication = mode_in(f, s, k, INDICATION_AT);
+    let request = mode_in(f, s, k, REQUEST_AT);
     FrameHeader {
         frame_type: t,
         quality,
@@ -109,7 +123,7 @@ fn sid_mode(f: Format, s: &[u8]) -> u8
     requires { ⌜ octets (formatOf f) 9 ≤ length (now s) ⌝ }
     ensures { λ r. ⌜ r ≡ num 4 (drop 36 (coreIn (formatOf f) 9 (bits (now (s .entry))))) ⌝ }
 {
-    bits::field_at(s, header_bits(f, 9) + 36, 4)
+    bits::field_at(s, header_bits(f, SID) + SID_MODE_AT, 4)
 }
 
 // Refusal 6's test of a frame that is read.
@@ -120,7 +134,7 @@ fn header_good(f: Format, s: &[u8], h: FrameHeader) -> bool
     let t = h.frame_type as u64;
     let i = h.indication as u64;
     let r = h.request as u64;
-    if t == 9 {
+    if t == SID as u64 {
         return fields_good(f, t, i, r, sid_mode(f, s) as u64);
     }
     fields_good(f, t, i, r, 0)
@@ -132,8 +146,8 @@ fn crc_good(f: Format, s: &[u8], t: usize) -> bool
     ensures { λ r. ⌜ r ≡ crcGood (formatOf f) (bits (now (s .entry))) ⌝ }
 {
     if carries_modes(f, t) {
-        let core = &s[3..];
-        return bits::field_at(s, 16, 8) == parity::crc_of(core, class_a(t));
+        let core = &s[CORE_AT..];
+        return bits::field_at(s, CRC_AT, 8) == parity::crc_of(core, class_a(t));
     }
     true
 }
