@@ -193,14 +193,24 @@ bits-layout f x rest v =
     ∙ ap (λ m. l ++ replicate (8 * m - (headerBits f (x .type) + coreBits (x .type))) false) (sym (sized f (x .type) (v .type-known) .packed)))
     ∙ append-assoc l (replicate (fillBits f (x .type)) false) (bits rest)
 
--- the chain, once its tests are known
-pub read-valid : (single : Bool) (f : Format) (s : List ℕ) (x : Frame) → 1 ≤ length s → known (x .type) ≡ true → octets f (x .type) ≤ length s
+-- a chain whose tests all hold
+passes : {A : Type 0} (b₁ b₂ b₃ b₄ b₅ b₆ b₇ : Bool) (a : A) → b₁ ≡ true → b₂ ≡ true → b₃ ≡ true → b₄ ≡ true → b₅ ≡ true → b₆ ≡ true → b₇ ≡ true
+    → unless 1 b₁ (unless 2 b₂ (unless 3 b₃ (unless 4 b₄ (unless 5 b₅ (unless 6 b₆ (unless 7 b₇ (ok a))))))) ≡ ok a
+passes b₁ b₂ b₃ b₄ b₅ b₆ b₇ a h₁ h₂ h₃ h₄ h₅ h₆ h₇ = rw (h₁, h₂, h₃, h₄, h₅, h₆, h₇)
+
+read-valid : (single : Bool) (f : Format) (s : List ℕ) (x : Frame) → 1 ≤ length s → known (x .type) ≡ true → octets f (x .type) ≤ length s
     → (not single || leb (length s) (octets f (x .type))) ≡ true
     → frameIn f (bits s) ≡ x → typeIn f (bits s) ≡ x .type → spareClear f (bits s) ≡ true → fieldsGood f x ≡ true → crcGood f (bits s) ≡ true
     → readWith single f s ≡ ok (x, octets f (x .type))
 unfolding readWith
 read-valid single f s x h₁ h₂ h₃ h₄ e t h₅ h₆ h₇ =
-    rw (le-leb 1 (length s) h₁, t, h₂, le-leb (octets f (x .type)) (length s) h₃, h₄, h₅, e, h₆, h₇)
+    let bs = bits s in
+    let n = octets f (typeIn f bs) in
+    let en : octets f (typeIn f (bits s)) ≡ octets f (x .type) = ap (octets f) t in
+    passes (leb 1 (length s)) (known (typeIn f bs)) (leb n (length s)) (not single || leb (length s) n) (spareClear f bs) (fieldsGood f (frameIn f bs)) (crcGood f bs)
+    (frameIn f bs, n) (le-leb 1 (length s) h₁) (ap known t ∙ h₂) (ap (λ m. leb m (length s)) en ∙ le-leb _ _ h₃)
+    (ap (λ m. not single || leb (length s) m) en ∙ h₄) h₅ (ap (fieldsGood f) e ∙ h₆) h₇
+    ∙ ap₂ (λ y m. ok (y, m)) e en
 
 -- what is laid out is read again
 pub read-layout : (single : Bool) (f : Format) (x : Frame) (rest : List ℕ) → Valid f x

@@ -78,17 +78,13 @@ slice-write-out-2 : tie.Need-slice-write-out-2
 slice-write-out-2 c =
     let start = c .before .before .before .before .before .before .before .before .before .before .before .before .before .before .before in
     let m = modes-carried if1 (start .args .h .«frame_type») (start .pre .0 .type-known) (start .pre .1) in
-    let r = c .before .before .before .before .before .before .before .before .before .put-run in
-    omega (arith, start .pre .0 .room, r .kept .1 .1 .1 .0, length-set (r .last .1 .1 .1 .0) 0 (c .before .before .first-octet .result))
+    simp length-set (omega (arith, start .pre .0 .room, c .before .before .before .before .before .before .before .before .before .put-run .kept .1 .1 .1 .0))
 
 slice-write-out-3 : tie.Need-slice-write-out-3
 slice-write-out-3 c =
     let start = c .before .before .before .before .before .before .before .before .before .before .before .before .before .before .before in
-    let h = start .args .h in
-    let m = modes-carried if1 (h .«frame_type») (start .pre .0 .type-known) (start .pre .1) in
-    let r = c .before .before .before .before .before .before .before .before .before .put-run in
-    let o = c .before .before .first-octet .result in
-    omega (arith, start .pre .0 .room, r .kept .1 .1 .1 .0, length-set (r .last .1 .1 .1 .0) 0 o, length-set (set (r .last .1 .1 .1 .0) 0 o) 1 (h .indication * 16 + h .request))
+    let m = modes-carried if1 (start .args .h .«frame_type») (start .pre .0 .type-known) (start .pre .1) in
+    simp length-set (omega (arith, start .pre .0 .room, c .before .before .before .before .before .before .before .before .before .put-run .kept .1 .1 .1 .0))
 
 same-length : tie.Need-same-length
 same-length c = search needs

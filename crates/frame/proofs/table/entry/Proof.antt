@@ -17,16 +17,16 @@ index-1-result c = search needs
 index-2-result : tie.Need-index-2-result
 index-2-result c = search needs
 
-cast-result : tie.Need-cast-result
-cast-result c =
-    let start = c .before in
-    omega (arith, entry-most (start .args .t) (start .args .c) (start .pre .0) (start .pre .1))
-
 returns : tie.Need-returns
 returns c =
     let start = c .before in
     let a = start .args in
     (entry-is (a .t) (a .c) (start .pre .0) (start .pre .1), entry-most (a .t) (a .c) (start .pre .0) (start .pre .1))
+
+cast-result : tie.Need-cast-result
+cast-result c =
+    let start = c .before in
+    omega (arith, entry-most (start .args .t) (start .args .c) (start .pre .0) (start .pre .1))
 
 pub entry-spec : {M : Type 1} → statement M
 entry-spec =

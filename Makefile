@@ -1,0 +1,10 @@
+.PHONY: demo test
+
+# builds one SID frame in each format and reads it back
+demo:
+	@tests/build
+	@target/tools/demo
+
+# everything: proofs, must-fail edits, the compiled library against the second program
+test:
+	@tests/run
