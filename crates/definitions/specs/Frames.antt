@@ -146,7 +146,7 @@ fillBits f t = 8 * octets f t - (headerBits f t + coreBits t)
 abbrev pub fillClear : Format → ℕ → List Bool → Bool
 fillClear f t bs = clear (fillBits f t) (drop (headerBits f t + coreBits t) bs)
 
--- refusal 5
+-- refusal 5: no spare or filling bit is 1
 unfoldable pub spareClear : Format → List Bool → Bool
 spareClear f bs = clear (spareBefore f) bs && (clear (spareAfter f) (drop (spareBefore f + 5) bs) && fillClear f (typeIn f bs) bs)
 
@@ -158,14 +158,14 @@ sidGood t indication mode = not (eqb t 9) || (eqb indication 0 && leb mode 8)
 abbrev pub uncarriedZero : Format → ℕ → ℕ → ℕ → Bool
 uncarriedZero f t indication request = carriesModes f t || (eqb indication 0 && eqb request 0)
 
--- refusal 6
+-- refusal 6: indication and request are modes, 0 to 8, and the two rules above hold
 unfoldable pub fieldsGood : Format → Frame → Bool
 fieldsGood f x =
     leb (x .indication) 8
     && (leb (x .request) 8
     && (sidGood (x .type) (x .indication) (num 4 (drop 36 (x .core))) && uncarriedZero f (x .type) (x .indication) (x .request)))
 
--- refusal 7, at either quality
+-- refusal 7: the CRC matches, at either quality
 unfoldable pub crcGood : Format → List Bool → Bool
 crcGood f bs =
     let t : ℕ = typeIn f bs in

@@ -8,7 +8,9 @@ use Rattle.bits.specs.Bits.{clear, bits, pack}
 use Rattle.definitions.specs.Outcome.{Outcome, refused, ok, unless, andThen}
 use Rattle.definitions.specs.Frames.{Format, if1, if2, storage, Frame, known, coreBits, octets, coreOctets, layout, typeIn, frameIn, spareClear, fieldsGood, crcGood}
 
--- the frame at the start of the octets, with how many it takes; a single frame has nothing behind it
+-- the frame at the start of the octets, with how many it takes; a single frame has nothing behind it. 1 no octets; 2 a reserved type;
+-- 3 fewer octets than the type's; 4 octets behind a single frame; 5 a spare or filling bit 1; 6 a mode above 8 or a field that must be 0
+-- is not; 7 the CRC
 unfoldable pub readWith : Bool → Format → List ℕ → Outcome (Frame × ℕ)
 readWith single f s =
     let bs : List Bool = bits s in
@@ -56,7 +58,8 @@ coreAfter (ok y) d = overwritten (pack (y .0 .core)) d
 abbrev pub frameOf : ℕ → ℕ → ℕ → ℕ → List ℕ → Frame
 frameOf t q i r c = record { type = t; quality = q; indication = i; request = r; core = take (coreBits t) (bits c) }
 
--- the frame that a building call would write into room octets, with how many it takes
+-- the frame that a building call would write into room octets, with how many it takes. 11 a type above 15, a quality above 1 or, of a
+-- type that is not reserved, another length of the core than its octets; 2, 5 and 6 as in reading; 10 too little room
 unfoldable pub buildCheck : Format → ℕ → ℕ → ℕ → ℕ → List ℕ → ℕ → Outcome (Frame × ℕ)
 buildCheck f t q i r c room =
     let x : Frame = frameOf t q i r c in

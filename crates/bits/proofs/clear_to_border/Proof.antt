@@ -18,7 +18,7 @@ sub-with-field c = omega (arith, low3 (c .before .before .before .args .end))
 with-field-requires : tie.Need-with-field-requires
 with-field-requires c κs =
     let end = c .before .before .before .args .end in
-    (omega (arith, low3 end), pow-pos (8 - bitAnd end 7))
+    (omega (arith, low3 end), pow-pos _)
 
 slice-write-dst : tie.Need-slice-write-dst
 slice-write-dst c = omega (arith, low3 (c .before .before .before .before .args .end))
