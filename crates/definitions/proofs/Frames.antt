@@ -338,40 +338,50 @@ passed true true true true false b₆ b₇ a y h = never 5 y h
 passed true true true true true false b₇ a y h = never 6 y h
 passed true true true true true true false a y h = never 7 y h
 
--- what is shown has a known type, and all its octets are there
-pub read-known : (single : Bool) (f : Format) (s : List ℕ) (x : Frame) (n : ℕ) → readWith single f s ≡ ok (x, n)
-    → (known (x .type) ≡ true) × (octets f (x .type) ≤ length s) × (n ≡ octets f (x .type))
+-- what the reader has judged of the octets when it shows y
+pub record Judged (single : Bool) (f : Format) (s : List ℕ) (y : Frame × ℕ) : Type 0 where
+  pub type-known : known (typeIn f (bits s)) ≡ true
+  pub enough : octets f (typeIn f (bits s)) ≤ length s
+  pub ending : (not single || leb (length s) (octets f (typeIn f (bits s)))) ≡ true
+  pub spare : spareClear f (bits s) ≡ true
+  pub fields : fieldsGood f (frameIn f (bits s)) ≡ true
+  pub check : crcGood f (bits s) ≡ true
+  pub shown : _≡_ {A = Frame × ℕ} (frameIn f (bits s), octets f (typeIn f (bits s))) y
+
+pub judged : (single : Bool) (f : Format) (s : List ℕ) (y : Frame × ℕ) → readWith single f s ≡ ok y → Judged single f s y
 unfolding readWith
-read-known single f s x n h =
+judged single f s y h =
     let bs = bits s in
     let t = typeIn f bs in
     let r =
     passed (leb 1 (length s)) (known t) (leb (octets f t) (length s)) (not single || leb (length s) (octets f t)) (spareClear f bs) (fieldsGood f (frameIn f bs)) (crcGood f bs)
-    (frameIn f bs, octets f t) (x, n) h in
-    let same : typeIn f (bits s) ≡ x .type = sym (type-frame f bs) ∙ ap (λ (y : Frame × ℕ). y .0 .type) (r .6) in (
-      ap known (sym same) ∙ r .0,
-      subst (λ u. octets f u ≤ length s) same (leb-true _ _ (r .1)),
-      sym (ap (λ (y : Frame × ℕ). y .1) (r .6)) ∙ ap (octets f) same,
+    (frameIn f bs, octets f t) y h in
+    record { type-known = r .0; enough = leb-true _ _ (r .1); ending = r .2; spare = r .3; fields = r .4; check = r .5; shown = r .6 }
+
+-- what is shown has a known type, and all its octets are there
+pub read-known : (single : Bool) (f : Format) (s : List ℕ) (x : Frame) (n : ℕ) → readWith single f s ≡ ok (x, n)
+    → (known (x .type) ≡ true) × (octets f (x .type) ≤ length s) × (n ≡ octets f (x .type))
+read-known single f s x n h =
+    let j = judged single f s (x, n) h in
+    let same : typeIn f (bits s) ≡ x .type = sym (type-frame f (bits s)) ∙ ap (λ (y : Frame × ℕ). y .0 .type) (j .shown) in (
+      ap known (sym same) ∙ j .type-known,
+      subst (λ u. octets f u ≤ length s) same (j .enough),
+      sym (ap (λ (y : Frame × ℕ). y .1) (j .shown)) ∙ ap (octets f) same,
     )
 
 -- what is read is laid out again
 pub read-begins : (single : Bool) (f : Format) (s : List ℕ) (x : Frame) (n : ℕ) → Octets s → readWith single f s ≡ ok (x, n)
     → Begins f s x n × ((not single || leb (length s) n) ≡ true)
-unfolding readWith
 read-begins single f s x n o h =
     let bs = bits s in
-    let t = typeIn f bs in
-    let r =
-    passed (leb 1 (length s)) (known t) (leb (octets f t) (length s)) (not single || leb (length s) (octets f t)) (spareClear f bs) (fieldsGood f (frameIn f bs)) (crcGood f bs)
-    (frameIn f bs, octets f t) (x, n) h in
-    let enough = leb-true _ _ (r .1) in
-    let v = frame-valid f s o (r .0) enough (r .3) (r .4) (r .5) in
+    let j = judged single f s (x, n) h in
+    let v = frame-valid f s o (j .type-known) (j .enough) (j .spare) (j .fields) (j .check) in
     let b : Begins f s (frameIn f (bits s)) (octets f (typeIn f (bits s))) = record {
       valid = v;
       size = length-layout f (frameIn f bs) v ∙ ap (octets f) (type-frame f bs);
-      laid = layout-again f s o (r .0) enough (r .3) (r .4) (r .5);
+      laid = layout-again f s o (j .type-known) (j .enough) (j .spare) (j .fields) (j .check);
     } in
-    subst (λ y. Begins f s (y .0) (y .1) × ((not single || leb (length s) (y .1)) ≡ true)) (r .6) (b, r .2)
+    subst (λ y. Begins f s (y .0) (y .1) × ((not single || leb (length s) (y .1)) ≡ true)) (j .shown) (b, j .ending)
 
 pub begins-read : (single : Bool) (f : Format) (s : List ℕ) (x : Frame) (n : ℕ) → Begins f s x n → (not single || leb (length s) n) ≡ true
     → readWith single f s ≡ ok (x, n)

@@ -3,7 +3,7 @@
 use mathlib.Core.Path.{_≡_, refl, sym, ap, ap₂, _∙_}
 use mathlib.Core.Bool.{Bool, true, false}
 use mathlib.Core.List.{List, [], _∷_, _++_, append-assoc, append-nil}
-use Prim.Native.Nat.{ℕ, zero, suc, _+_, _-_, _*_, _/_, _<_, _≤_}
+use Prim.Native.Nat.{ℕ, zero, suc, _+_, _-_, _*_, _<_, _≤_}
 use native.Mathlib.Nat.{add-zero, zero-lt-suc}
 use native.Mathlib.Omega.{arith}
 use lib.Dec.{eqb}
@@ -27,7 +27,7 @@ use Rattle.frame.specs.declared.Refusal.{Refusal}
 use Rattle.frame.specs.declared.Reading.{Reading}
 use Rattle.frame.specs.declared.Reading.the-variants.{Frame as FrameRead, Refused}
 use Rattle.frame.specs.declared.Built.the-variants as built
-use Rattle.frame.proofs.TableLaws.{modes-carried, no-octets-reserved, octets-not-reserved, sid-core}
+use Rattle.frame.proofs.TableLaws.{modes-carried, no-octets-reserved, sid-core}
 
 -- ---- the first octet
 
@@ -200,6 +200,17 @@ pub mode-within : (c : List ℕ) (t v : ℕ) → t ≡ 9 → v ≡ num 4 (drop 3
 mode-within c t v et ev =
     ev ∙ sym (num-within 4 36 40 (bits c) (omega arith)) ∙ ap (λ k. num 4 (drop 36 (take k (bits c)))) (sym (ap coreBits et ∙ sid-core))
 
+-- the numbers are in their ranges, the type is known, and the core has its octets
+pub record Measured (t q : ℕ) (c : List ℕ) : Type 0 where
+  pub type-most : t ≤ 15
+  pub quality-most : q ≤ 1
+  pub type-known : known t ≡ true
+  pub core-size : length c ≡ coreOctets t
+
+-- the filling of a packed core
+abbrev pub coreFill : ℕ → List ℕ → Bool
+coreFill t c = clear (8 * length c - coreBits t) (drop (coreBits t) (bits c))
+
 module _ (f : Format) (t q i r : ℕ) (c : List ℕ) (room : ℕ) where
   pub type-high : 15 < t → refused 11 ≡ buildCheck f t q i r c room
   unfolding buildCheck
@@ -209,49 +220,36 @@ module _ (f : Format) (t q i r : ℕ) (c : List ℕ) (room : ℕ) where
   unfolding buildCheck
   quality-high ht h = rw (le-leb t 15 ht, lt-leb q 1 h)
 
-  module _ (ht : t ≤ 15) (hq : q ≤ 1) (n : ℕ) (en : n ≡ octets f t) where
-    pub type-reserved : n ≡ 0 → refused 2 ≡ buildCheck f t q i r c room
+  pub type-reserved : t ≤ 15 → q ≤ 1 → octets f t ≡ 0 → refused 2 ≡ buildCheck f t q i r c room
+  unfolding buildCheck
+  type-reserved ht hq z = rw (le-leb t 15 ht, le-leb q 1 hq, no-octets-reserved f t (omega arith) z)
+
+  pub core-length-wrong : t ≤ 15 → q ≤ 1 → known t ≡ true → (length c ≡ coreOctets t → ⊥) → refused 11 ≡ buildCheck f t q i r c room
+  unfolding buildCheck
+  core-length-wrong ht hq kt w = rw (le-leb t 15 ht, le-leb q 1 hq, kt, ne-eqb (length c) (coreOctets t) w)
+
+  module _ (m : Measured t q c) where
+    pub fill-wrong : coreFill t c ≡ false → refused 5 ≡ buildCheck f t q i r c room
     unfolding buildCheck
-    type-reserved z = rw (le-leb t 15 ht, le-leb q 1 hq, no-octets-reserved f t (omega arith) (sym en ∙ z))
+    fill-wrong w =
+        rw (le-leb t 15 (m .type-most), le-leb q 1 (m .quality-most), m .type-known, eq-eqb (length c) (coreOctets t) (m .core-size), w)
 
-    pub type-there : (n ≡ 0 → ⊥) → known t ≡ true
-    type-there z = octets-not-reserved f t (omega arith) (λ y. z (en ∙ y))
-
-    module _ (k : ℕ) (ek : k ≡ coreBits t) (kt : known t ≡ true) where
-      pub core-length-wrong : (length c ≡ (k + 7) / 8 → ⊥) → refused 11 ≡ buildCheck f t q i r c room
+    module _ (fill : coreFill t c ≡ true) where
+      pub fields-wrong : fieldsGood f (frameOf t q i r c) ≡ false → refused 6 ≡ buildCheck f t q i r c room
       unfolding buildCheck
-      core-length-wrong w =
-          rw (le-leb t 15 ht, le-leb q 1 hq, kt, ne-eqb (length c) (coreOctets t) (λ y. w (y ∙ ap octetsFor (sym ek))))
+      fields-wrong w =
+          rw (le-leb t 15 (m .type-most), le-leb q 1 (m .quality-most), m .type-known, eq-eqb (length c) (coreOctets t) (m .core-size), fill, w)
 
-      module _ (l : length c ≡ (k + 7) / 8) where
-        size : length c ≡ coreOctets t
-        size = l ∙ ap octetsFor ek
-
-        pub fill-wrong : (b : Bool) → b ≡ clear (8 * length c - k) (drop k (bits c)) → b ≡ false → refused 5 ≡ buildCheck f t q i r c room
+      module _ (g : fieldsGood f (frameOf t q i r c) ≡ true) (n : ℕ) (en : n ≡ octets f t) where
+        pub output-short : room < n → refused 10 ≡ buildCheck f t q i r c room
         unfolding buildCheck
-        fill-wrong b e w =
-            let z : clear (8 * length c - coreBits t) (drop (coreBits t) (bits c)) ≡ false =
-            ap (λ k. clear (8 * length c - k) (drop k (bits c))) (sym ek) ∙ sym e ∙ w in
-            rw (le-leb t 15 ht, le-leb q 1 hq, kt, eq-eqb (length c) (coreOctets t) size, z)
+        output-short h =
+            rw (le-leb t 15 (m .type-most), le-leb q 1 (m .quality-most), m .type-known, eq-eqb (length c) (coreOctets t) (m .core-size), fill, g, ← en, lt-leb n room h)
 
-        module _ (b : Bool) (eb : b ≡ clear (8 * length c - k) (drop k (bits c))) (fill : b ≡ true) where
-          filled : clear (8 * length c - coreBits t) (drop (coreBits t) (bits c)) ≡ true
-          filled = ap (λ k. clear (8 * length c - k) (drop k (bits c))) (sym ek) ∙ sym eb ∙ fill
-
-          pub fields-wrong : fieldsGood f (frameOf t q i r c) ≡ false → refused 6 ≡ buildCheck f t q i r c room
-          unfolding buildCheck
-          fields-wrong w = rw (le-leb t 15 ht, le-leb q 1 hq, kt, eq-eqb (length c) (coreOctets t) size, filled, w)
-
-          module _ (g : fieldsGood f (frameOf t q i r c) ≡ true) where
-            pub output-short : room < n → refused 10 ≡ buildCheck f t q i r c room
-            unfolding buildCheck
-            output-short h =
-                rw (le-leb t 15 ht, le-leb q 1 hq, kt, eq-eqb (length c) (coreOctets t) size, filled, g, ← en, lt-leb n room h)
-
-            pub builds : n ≤ room → ok (frameOf t q i r c, n) ≡ buildCheck f t q i r c room
-            unfolding buildCheck
-            builds h =
-                rw (le-leb t 15 ht, le-leb q 1 hq, kt, eq-eqb (length c) (coreOctets t) size, filled, g, ← en, le-leb n room h)
+        pub builds : n ≤ room → ok (frameOf t q i r c, n) ≡ buildCheck f t q i r c room
+        unfolding buildCheck
+        builds h =
+            rw (le-leb t 15 (m .type-most), le-leb q 1 (m .quality-most), m .type-known, eq-eqb (length c) (coreOctets t) (m .core-size), fill, g, ← en, le-leb n room h)
 
 -- modes that pass refusal 6's test fit an octet
 pub modes-fit : (f : Format) (x : Frame) → fieldsGood f x ≡ true → (x .indication ≤ 8) × (x .request ≤ 8)

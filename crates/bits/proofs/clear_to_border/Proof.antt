@@ -3,7 +3,6 @@
 use borrow.Author.Needs.{needs}
 use native.Mathlib.Omega.{arith}
 use Prim.Native.Nat.{_-_}
-use lib.Bits.{bitAnd}
 use lib.Pow.{pow-pos}
 use Rattle.bits.proofs.Masks.{low3, cleared, at-border}
 use Rattle.bits.proofs.clear_to_border.Statement.{statement}

@@ -3,7 +3,7 @@ use borrow.Author.Needs.{needs}
 use mathlib.Core.Path.{refl}
 use Prim.Native.Nat.{_+_, _-_, _*_}
 use native.Mathlib.Omega.{arith}
-use lib.ListN.{length, drop, set, length-set, length-drop}
+use lib.ListN.{length, drop, length-set, length-drop}
 use lib.Seq.{length-take-le}
 use Rattle.definitions.specs.Frames.{if1}
 use Rattle.definitions.proofs.Tables.{known-below, class-a-within}
