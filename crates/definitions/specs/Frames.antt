@@ -19,6 +19,9 @@ pub record Frame : Type 0 where
   pub request : ℕ
   pub core : List Bool
 
+abbrev pub frameBy : (type quality indication request : ℕ) → List Bool → Frame
+frameBy t q i r core = record { type = t; quality = q; indication = i; request = r; core = core }
+
 -- ---- the table of types
 
 pub data Row : Type 0 where

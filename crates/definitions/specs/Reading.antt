@@ -6,7 +6,7 @@ use lib.ListN.{length, take, drop}
 use lib.Dec.{eqb, leb}
 use Rattle.bits.specs.Bits.{clear, bits, pack}
 use Rattle.definitions.specs.Outcome.{Outcome, refused, ok, unless, andThen}
-use Rattle.definitions.specs.Frames.{Format, if1, if2, storage, Frame, known, coreBits, octets, coreOctets, layout, typeIn, frameIn, spareClear, fieldsGood, crcGood}
+use Rattle.definitions.specs.Frames.{Format, if1, if2, storage, Frame, frameBy, known, coreBits, octets, coreOctets, layout, typeIn, frameIn, spareClear, fieldsGood, crcGood}
 
 -- the frame at the start of the octets, with how many it takes; a single frame has nothing behind it. 1 no octets; 2 a reserved type;
 -- 3 fewer octets than the type's; 4 octets behind a single frame; 5 a spare or filling bit 1; 6 a mode above 8 or a field that must be 0
@@ -54,9 +54,13 @@ abbrev pub coreAfter : Outcome (Frame × ℕ) → List ℕ → List ℕ
 coreAfter (refused n) d = d
 coreAfter (ok y) d = overwritten (pack (y .0 .core)) d
 
+-- the core of a frame of type t that stands packed in a buffer
+abbrev pub bufferCore : List ℕ → ℕ → List Bool
+bufferCore d t = take (coreBits t) (bits d)
+
 -- the frame of the numbers and the packed core that a building call is handed
 abbrev pub frameOf : ℕ → ℕ → ℕ → ℕ → List ℕ → Frame
-frameOf t q i r c = record { type = t; quality = q; indication = i; request = r; core = take (coreBits t) (bits c) }
+frameOf t q i r c = frameBy t q i r (bufferCore c t)
 
 -- the frame that a building call would write into room octets, with how many it takes. 11 a type above 15, a quality above 1 or, of a
 -- type that is not reserved, another length of the core than its octets; 2, 5 and 6 as in reading; 10 too little room

@@ -7,8 +7,7 @@ use lib.Dec.{eqb}
 use lib.ListN.{drop}
 use borrow.Author.Tests.{le-leb, lt-leb, eqb-true}
 use Rattle.bits.specs.Bits.{num}
-use Rattle.definitions.specs.Frames.{Format, sidGood, uncarriedZero, fieldsGood}
-use Rattle.frame.specs.Answers.{frameBy}
+use Rattle.definitions.specs.Frames.{Format, frameBy, sidGood, uncarriedZero, fieldsGood}
 
 -- the SID mode counts for type 9 alone
 same-sid : (t i m n : ℕ) → (t ≡ 9 → m ≡ n) → sidGood t i m ≡ sidGood t i n

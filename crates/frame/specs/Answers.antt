@@ -2,8 +2,6 @@
 use mathlib.Core.List.{List}
 use mathlib.Core.Bool.{Bool}
 use Prim.Native.Nat.{ℕ}
-use lib.ListN.{take}
-use Rattle.bits.specs.Bits.{bits}
 use Rattle.definitions.specs.Outcome.{Outcome, refused, ok}
 use Rattle.definitions.specs.Frames as paper
 use Rattle.frame.specs.declared.Format.{Format}
@@ -43,17 +41,9 @@ numberOf SetPresent = 15
 numberOf NotInSet = 16
 numberOf SubflowBuffer = 17
 
--- the frame of these fields
-abbrev pub frameBy : ℕ → ℕ → ℕ → ℕ → List Bool → paper.Frame
-frameBy t q i r core = record { type = t; quality = q; indication = i; request = r; core = core }
-
 -- the frame that a header and a core make
 abbrev pub frameWith : FrameHeader → List Bool → paper.Frame
-frameWith h core = frameBy (h .«frame_type») (h .quality) (h .indication) (h .request) core
-
--- the core of a frame of type t that stands packed in a buffer
-abbrev pub bufferCore : List ℕ → ℕ → List Bool
-bufferCore d t = take (paper.coreBits t) (bits d)
+frameWith h core = paper.frameBy (h .«frame_type») (h .quality) (h .indication) (h .request) core
 
 -- the frame and the count, or the refusal's number; the core is where the call put or found it, by the frame's type
 abbrev pub readingOf : (ℕ → List Bool) → Reading → Outcome (paper.Frame × ℕ)

@@ -7,8 +7,8 @@ ghost use mathlib.Core.List.{List};
 ghost use Prim.Native.Nat.{ℕ};
 ghost use lib.ListN.{drop};
 ghost use Rattle.bits.specs.Bits.{num};
-ghost use Rattle.definitions.specs.Frames.{sidGood, uncarriedZero, fieldsGood};
-ghost use Rattle.frame.specs.Answers.{formatOf, frameBy};
+ghost use Rattle.definitions.specs.Frames.{frameBy, sidGood, uncarriedZero, fieldsGood};
+ghost use Rattle.frame.specs.Answers.{formatOf};
 
 // The type of a SID frame.
 const SID: u64 = 9;

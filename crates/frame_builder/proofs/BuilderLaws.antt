@@ -16,11 +16,11 @@ use Rattle.parity.specs.Crc.{crc}
 use Rattle.parity.proofs.Guarded.{octet-bits}
 use Rattle.definitions.specs.Outcome.{refused, ok, andThen}
 use Rattle.definitions.specs.Frames.{Format, if1, if2, storage, Frame, known, coreBits, classA, octets, coreOctets, carriesModes, modesAndCrc, header, layout, headerBits, spareBefore, fieldsGood}
-use Rattle.definitions.specs.Reading.{frameOf, buildCheck, buildFrame, counted, outputAfter}
+use Rattle.definitions.specs.Reading.{bufferCore, frameOf, buildCheck, buildFrame, counted, outputAfter}
 use Rattle.definitions.proofs.Tables.{sized, class-a-within, core-most}
 use Rattle.definitions.proofs.Frames.{size-layout, fields-good}
 use Rattle.definitions.proofs.Claims.{check-known}
-use Rattle.frame.specs.Answers.{numberOf, frameWith, bufferCore, readingOf}
+use Rattle.frame.specs.Answers.{numberOf, frameWith, readingOf}
 use Rattle.frame_builder.specs.Output.{IntoOutput, runFrame, Writable}
 use Rattle.frame.specs.declared.FrameHeader.{FrameHeader}
 use Rattle.frame.specs.declared.Refusal.{Refusal}

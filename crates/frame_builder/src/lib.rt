@@ -17,9 +17,9 @@ ghost use mathlib.Core.List.{_++_};
 ghost use Prim.Native.Nat.{ℕ, _+_, _-_, _*_, _<_};
 ghost use lib.ListN.{length, drop};
 ghost use Rattle.bits.specs.Bits.{digits, bits, octetsFor, clear};
-ghost use Rattle.definitions.specs.Frames.{if1, if2, storage, coreBits, octets, carriesModes, spareBefore, layout, fieldsGood};
-ghost use Rattle.definitions.specs.Reading.{buildCheck, buildFrame};
-ghost use Rattle.frame.specs.Answers.{formatOf, frameBy, bufferCore, readingOf};
+ghost use Rattle.definitions.specs.Frames.{if1, if2, storage, frameBy, coreBits, octets, carriesModes, spareBefore, layout, fieldsGood};
+ghost use Rattle.definitions.specs.Reading.{bufferCore, buildCheck, buildFrame};
+ghost use Rattle.frame.specs.Answers.{formatOf, readingOf};
 ghost use Rattle.frame_builder.specs.Output.{Writable, runFrame, IntoOutput};
 
 // Where IF1 has the core, in bits and in octets.

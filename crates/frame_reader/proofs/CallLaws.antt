@@ -10,9 +10,9 @@ use Rattle.bits.specs.Bits.{bits, pack, octetsFor}
 use Rattle.bits.proofs.BitLaws.{length-pack, take-packed}
 use Rattle.definitions.specs.Outcome.{Outcome, refused, ok, unless, andThen}
 use Rattle.definitions.specs.Frames.{Frame, known, octets, coreBits, coreOctets, coreIn}
-use Rattle.definitions.specs.Reading.{readWith, formatNumbered, intoBuffer, readCall, coreAfter}
+use Rattle.definitions.specs.Reading.{readWith, formatNumbered, intoBuffer, readCall, coreAfter, bufferCore}
 use Rattle.definitions.proofs.Frames.{read-known}
-use Rattle.frame.specs.Answers.{formatOf, numberOf, frameWith, readingOf, bufferCore, foundOf}
+use Rattle.frame.specs.Answers.{formatOf, numberOf, frameWith, readingOf, foundOf}
 use Rattle.frame_reader.specs.Buffer.{IntoBuffer}
 use Rattle.frame.specs.declared.Refusal.{Refusal}
 use Rattle.frame.specs.declared.Refusal.the-variants.{OutputShort, ArgumentRange}

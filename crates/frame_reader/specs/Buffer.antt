@@ -4,8 +4,8 @@ use mathlib.Core.List.{List}
 use Prim.Native.Nat.{ℕ}
 use Rattle.definitions.specs.Outcome.{Outcome}
 use Rattle.definitions.specs.Frames.{Frame}
-use Rattle.definitions.specs.Reading.{coreAfter}
-use Rattle.frame.specs.Answers.{bufferCore, readingOf}
+use Rattle.definitions.specs.Reading.{coreAfter, bufferCore}
+use Rattle.frame.specs.Answers.{readingOf}
 use Rattle.frame.specs.declared.Reading.{Reading}
 
 -- the buffer is d₀ before the call and d after it

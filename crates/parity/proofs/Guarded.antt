@@ -1,7 +1,6 @@
 -- The CRC over what a frame holds, the bits of its core and its CRC octet: an octet is the number of the CRC exactly when its
 -- digits are the CRC, so what `Detects` says of words it says of frames. Assumes nothing.
 use mathlib.Core.Path.{_≡_, sym, ap, ap₂, _∙_}
-use mathlib.Core.Logic.{_≢_}
 use mathlib.Core.Bool.{Bool}
 use mathlib.Core.List.{List}
 use Prim.Native.Nat.{ℕ, _+_, _≤_}
@@ -11,7 +10,8 @@ use lib.Seq.{take-all, take-at, drop-at, length-take-le}
 use Rattle.bits.specs.Bits.{digits, num}
 use Rattle.bits.proofs.BitLaws.{length-digits, digits-num-le}
 use Rattle.parity.specs.Crc.{crc}
-use Rattle.parity.specs.Places.{differences, countTrue, firstTrue, lastTrue, guarded}
+use Rattle.parity.specs.Places.{guarded}
+use Rattle.parity.specs.Claims.{DetectsInFrames}
 use Rattle.parity.proofs.Register.{length-crc}
 use Rattle.parity.proofs.Detect.{detects}
 
@@ -31,11 +31,9 @@ module _ (n : ℕ) (d : List Bool) (c : ℕ) (h : n ≤ length d) where
       drop-at (take n d) (digits 8 c) n (length-take-le n d h)
       ∙ octet-bits (take n d) c e ∙ ap crc (sym (take-at (take n d) (digits 8 c) n (length-take-le n d h)))
 
--- Two frames with n Class A bits and right CRC octets: where the guarded bits differ at all, they differ in at least three
--- places, of which the last is at least eight after the first
-pub frames-differ : (n : ℕ) (d d′ : List Bool) (c c′ : ℕ) → n ≤ 247 → n ≤ length d → n ≤ length d′
-    → c ≡ num 8 (crc (take n d)) → c′ ≡ num 8 (crc (take n d′)) → guarded n d c ≢ guarded n d′ c′
-    → (3 ≤ countTrue (differences (guarded n d c) (guarded n d′ c′)))
-    × (firstTrue (differences (guarded n d c) (guarded n d′ c′)) + 8 ≤ lastTrue (differences (guarded n d c) (guarded n d′ c′)))
-frames-differ n d d′ c c′ h l l′ e e′ =
-    detects .differ n (guarded n d c) (guarded n d′ c′) h (length-guarded n d c l) (length-guarded n d′ c′ l′) (guarded-right n d c l e) (guarded-right n d′ c′ l′ e′)
+pub frames-differ : DetectsInFrames crc
+frames-differ = record {
+  differ = λ n d d′ x x′ h l l′ e e′.
+      detects .differ n (guarded n d x) (guarded n d′ x′) h (length-guarded n d x l) (length-guarded n d′ x′ l′)
+      (guarded-right n d x l e) (guarded-right n d′ x′ l′ e′);
+}

@@ -8,7 +8,7 @@ ghost use lib.ListN.{length, take, replicate};
 ghost use Rattle.bits.specs.Bits.{bits, digits, num};
 ghost use Rattle.parity.specs.Crc.{divide, crc};
 ghost use Rattle.parity.specs.Places.{countTrue};
-ghost use Rattle.parity.specs.Claims.{IsRemainder, Detects};
+ghost use Rattle.parity.specs.Claims.{IsRemainder, Detects, DetectsInFrames};
 
 // The generator without D^8: D^6 + D^5 + D^4 + 1.
 const LOWER: u8 = 0x71;
@@ -78,9 +78,9 @@ pub fn remainder_claim()
     ensures { λ _. ⌜ IsRemainder crc ⌝ }
 {}
 
-// Does nothing. Its contract: what the CRC detects.
+// Does nothing. Its contract: what the CRC detects, in words and in frames.
 pub fn detection_claim()
-    ensures { λ _. ⌜ Detects crc ⌝ }
+    ensures { λ _. ⌜ Detects crc × DetectsInFrames crc ⌝ }
 {}
 
 // Does nothing. Its contract: a CRC that is always 0 does not detect, and 248 message bits are too many, since a word with only two

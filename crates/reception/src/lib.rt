@@ -6,6 +6,13 @@ ghost use mathlib.Core.Path.{_≡_};
 ghost use Rattle.definitions.specs.Reception.{speechClass, sidClass, classOf, receptionClass};
 ghost use Rattle.reception.specs.Classes.{speechOf, sidOf, receptionOf, classifiedOf};
 
+// Types 0 to 8 are speech.
+const LAST_SPEECH: u64 = 8;
+
+const SID: u64 = 9;
+
+const SPEECH_LOST: u64 = 14;
+
 pub enum SpeechClass {
     Good,
     Bad,
@@ -55,13 +62,13 @@ fn sid_class(good: bool, sti: bool) -> SidClass
 pub fn class_of(t: u64, good: bool, sti: bool) -> Reception
     ensures { λ r. ⌜ receptionOf r ≡ classOf t good sti ⌝ }
 {
-    if t <= 8 {
+    if t <= LAST_SPEECH {
         return Reception::Speech(speech_class(good));
     }
-    if t == 9 {
+    if t == SID {
         return Reception::Sid(sid_class(good, sti));
     }
-    if t == 14 {
+    if t == SPEECH_LOST {
         return Reception::SpeechLost;
     }
     Reception::NoData

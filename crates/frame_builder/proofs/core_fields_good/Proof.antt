@@ -4,7 +4,7 @@ use mathlib.Core.Path.{ap, _∙_}
 use native.Mathlib.Omega.{arith}
 use Rattle.bits.specs.Bits.{octetsFor}
 use Rattle.definitions.specs.Frames.{coreBits}
-use Rattle.frame.specs.Answers.{bufferCore}
+use Rattle.definitions.specs.Reading.{bufferCore}
 use Rattle.frame.proofs.TableLaws.{sid-core}
 use Rattle.frame_builder.proofs.BuilderLaws.{mode-within}
 use Rattle.frame_builder.proofs.core_fields_good.Statement.{statement}

@@ -2,7 +2,8 @@
 use borrow.Author.Needs.{needs}
 use mathlib.Core.Path.{sym, ap, _∙_}
 use Rattle.definitions.specs.Outcome.{refused}
-use Rattle.frame.specs.Answers.{readingOf, bufferCore}
+use Rattle.definitions.specs.Reading.{bufferCore}
+use Rattle.frame.specs.Answers.{readingOf}
 use Rattle.level_two.specs.Flat.{frameNumbers}
 use Rattle.level_two.proofs.amrwb_read_frame.Statement.{statement}
 use Rattle.level_two.proofs.amrwb_read_frame.Tie as tie
