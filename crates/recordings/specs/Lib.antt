@@ -1,0 +1,4 @@
+pub mod Placed
+pub mod Recordings
+pub mod Conversion
+pub mod Claims
