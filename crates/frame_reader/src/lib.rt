@@ -1,5 +1,5 @@
 // Reading one frame. Each test of document 01's order is one function, whose answer equals the definition's test; `judge` makes them
-// in that order. `read_frame` is an entry; `read_front` is `pub` for the crates that go over recordings.
+// in that order. `read_frame` is an entry; `read_front`, `type_in` and `quality_in` are `pub` for the crates that go over recordings.
 use frame::Format;
 use frame::FormatFound;
 use frame::FrameHeader;
@@ -40,7 +40,7 @@ const SID: usize = 9;
 const SID_MODE_AT: usize = 36;
 
 // The type that the first octet names.
-fn type_in(f: Format, s: &[u8]) -> u8
+pub fn type_in(f: Format, s: &[u8]) -> u8
     requires { ⌜ 0 < length (now s) ⌝ }
     ensures { λ r. ⌜ r ≡ typeIn (formatOf f) (bits (now (s .entry))) ⌝ }
 {
@@ -48,7 +48,7 @@ fn type_in(f: Format, s: &[u8]) -> u8
 }
 
 // The FQI.
-fn quality_in(f: Format, s: &[u8]) -> u8
+pub fn quality_in(f: Format, s: &[u8]) -> u8
     requires { ⌜ 0 < length (now s) ⌝ }
     ensures { λ r. ⌜ r ≡ qualityIn (formatOf f) (bits (now (s .entry))) ⌝ }
 {

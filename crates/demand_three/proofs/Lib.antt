@@ -1,0 +1,5 @@
+pub mod Carried
+pub mod Trips
+pub mod Apart
+pub mod Claims
+pub mod Wrong
