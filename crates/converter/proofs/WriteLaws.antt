@@ -38,20 +38,31 @@ pub record Written (f g : Format) (r : ℕ) (s d₀ d : List ℕ) (at to : ℕ) 
   pub ahead : drop at s ≡ layouts f ys
   pub within : at ≤ length s
   pub as-long : length d ≡ length d₀
+  pub small : length (converted f g r xs) ≤ limit
   pub room : length (converted f g r xs) ≤ length d₀
   pub so-far : converted f g r xs ≡ take to d ++ coming f g r ys
   pub place : to + length (coming f g r ys) ≡ length (converted f g r xs)
   pub beyond : drop to d ≡ drop to d₀
 
+pub header-room : (f g : Format) (r : ℕ) (xs : List Frame) (d : List ℕ) → length (converted f g r xs) ≤ length d → length (fileHeader g) ≤ length d
+unfolding writeRecording
+header-room f g r xs d h = omega (arith, length-append (fileHeader g) (coming f g r xs))
+
+-- the file header leaves the buffer as long as it was
+pub header-long : (f g : Format) (r : ℕ) (xs : List Frame) (d₀ d : List ℕ) → length (converted f g r xs) ≤ length d₀ → d ≡ overwritten (fileHeader g) d₀
+    → length d ≡ length d₀
+header-long f g r xs d₀ d h e =
+    ap length e ∙ length-append (fileHeader g) (drop (length (fileHeader g)) d₀)
+    ∙ omega (arith, header-room f g r xs d₀ h, length-drop (length (fileHeader g)) d₀)
+
 -- at the start, the file header is written
 pub written-start : (f g : Format) (r : ℕ) (s d₀ d : List ℕ) (xs : List Frame) (at to : ℕ) → Octets s → readRecording f s ≡ done xs
-    → length (converted f g r xs) ≤ length d₀ → at ≡ length (fileHeader f) → to ≡ length (fileHeader g) → d ≡ overwritten (fileHeader g) d₀ → Written f g r s d d at to
+    → length (converted f g r xs) ≤ limit → length (converted f g r xs) ≤ length d₀ → at ≡ length (fileHeader f) → to ≡ length (fileHeader g) → d ≡ overwritten (fileHeader g) d₀ → Written f g r s d d at to
 unfolding writeRecording
-written-start f g r s d₀ d xs at to o h l ea et ed =
+written-start f g r s d₀ d xs at to o h b l ea et ed =
     let w = reads-recordings .exactly f s xs o .0 h in
     let p = length-append (fileHeader g) (coming f g r xs) in
-    let n : length (fileHeader g) ≤ length d₀ = omega arith in
-    let k : length d ≡ length d₀ = ap length ed ∙ length-append (fileHeader g) (drop (length (fileHeader g)) d₀) ∙ omega (arith, length-drop (length (fileHeader g)) d₀) in
+    let k : length d ≡ length d₀ = header-long f g r xs d₀ d l ed in
     record {
       xs = xs;
       ys = xs;
@@ -60,6 +71,7 @@ written-start f g r s d₀ d xs at to o h l ea et ed =
       ahead = ap₂ drop ea (w .laid) ∙ drop-at (fileHeader f) (layouts f xs) _ refl;
       within = omega (arith, ap length (w .laid), length-append (fileHeader f) (layouts f xs));
       as-long = refl;
+      small = b;
       room = omega arith;
       so-far = ap (λ l. l ++ coming f g r xs) (sym (ap₂ take et ed ∙ take-at (fileHeader g) (drop (length (fileHeader g)) d₀) _ refl));
       place = omega arith;
@@ -113,9 +125,11 @@ module _ {f g : Format} {r : ℕ} {s d₀ d : List ℕ} {at to : ℕ} (w : Writt
   front-size = size-carried f g r (at-front .x) (at-front .valid .type-known) (at-front .valid .core-length)
 
   -- the frame has room
-  pub front-room : to + octets g (at-front .x .type) + length (coming f g r (at-front .zs)) ≤ length d
+  pub front-room : (to + octets g (at-front .x .type) + length (coming f g r (at-front .zs)) ≤ length d) × (to + octets g (at-front .x .type) ≤ limit)
   front-room =
-      omega (arith, w .place, w .room, w .as-long, ap length coming-front, length-append (layout g (carried g f r (at-front .x))) (coming f g r (at-front .zs)), front-size)
+      let e = ap length coming-front in
+      let a = length-append (layout g (carried g f r (at-front .x))) (coming f g r (at-front .zs)) in
+      (omega (arith, w .place, w .room, w .as-long, front-size), omega (arith, w .place, w .small, front-size))
 
   -- the frame is written
   pub written-step : (d′ : List ℕ) (m n : ℕ) → m ≡ octets f (at-front .x .type) → n ≡ octets g (at-front .x .type)
@@ -137,6 +151,7 @@ module _ {f g : Format} {r : ℕ} {s d₀ d : List ℕ} {at to : ℕ} (w : Writt
         ahead = sym (drop-drop m at s) ∙ ap (drop m) (at-front .laid) ∙ drop-at (layout f x) (layouts f zs) m (length-layout f x (at-front .valid) ∙ sym em);
         within = omega (arith, front-octets, w .within);
         as-long = ap length whole ∙ length-append (take to d ++ l) (drop (to + n) d) ∙ omega (arith, length-drop (to + n) d, w .as-long);
+        small = w .small;
         room = w .room;
         so-far =
             w .so-far ∙ ap (λ c. take to d ++ c) coming-front ∙ sym (append-assoc (take to d) l (coming f g r zs))
@@ -218,7 +233,7 @@ header-small if2 t = omega arith
 header-small storage t = omega arith
 
 -- the part of the recording that the code reads the frame from
-part-is : (s : List ℕ) (at : ℕ) → take (length s - at) (drop at s) ≡ drop at s
+pub part-is : (s : List ℕ) (at : ℕ) → take (length s - at) (drop at s) ≡ drop at s
 part-is s at = take-all (length s - at) (drop at s) (omega (arith, length-drop at s))
 
 -- what the frame at hand gives to the code: d is the part of the recording, h the header that is carried over
@@ -245,7 +260,7 @@ module _ {f g : Format} {r : ℕ} {s d₀ d : List ℕ} {at to : ℕ} (w : Writt
     header-known = ap known header-type ∙ at-front w l .valid .type-known
 
     -- it can be written, and what is written is the carried frame
-    pub header-writable : (from : ℕ) → from ≡ headerBits f (h .«frame_type») → Writable g h (take (length s - at) (drop at s)) from (drop to d)
+    pub header-writable : (from : ℕ) → from ≡ headerBits f (h .«frame_type») → Writable g h (take (length s - at) (drop at s)) from (take (length d - to) (drop to d))
     header-writable from ef =
         let x = at-front w l .x in
         let v = at-front w l .valid in
@@ -262,7 +277,7 @@ module _ {f g : Format} {r : ℕ} {s d₀ d : List ℕ} {at to : ℕ} (w : Writt
           request-bits = omega (arith, ap (λ y. y .request) is-carried, c .1);
           core-there = omega (arith, front-octets w l, ap length (part-is s at), length-drop at s);
           core-near = omega (arith, core-most (x .type) (v .type-known), header-small f (h .«frame_type»));
-          room = omega (arith, front-room w l, length-drop to d);
+          room = omega (arith, front-room w l, length-drop to d, ap length (part-is d to));
         }
 
     pub header-layout : (from : ℕ) → from ≡ headerBits f (h .«frame_type»)
@@ -271,3 +286,14 @@ module _ {f g : Format} {r : ℕ} {s d₀ d : List ℕ} {at to : ℕ} (w : Writt
         ap (layout g)
         (ap₂ (λ b p. frameWith h (take (coreBits (h .«frame_type»)) (drop b (bits p)))) ef (part-is s at)
         ∙ ap (λ t. frameWith h (coreIn f t (bits (drop at s)))) (header-type ∙ sym (front-type w l)) ∙ is-carried)
+
+    -- the code writes into the part of the buffer from `to` on; q is that part afterwards
+    pub header-written : (q : List ℕ) (from m n : ℕ) → from ≡ headerBits f (h .«frame_type») → m ≡ octets f (h .«frame_type») → n ≡ octets g (h .«frame_type»)
+        → q ≡ layout g (runFrame h (take (length s - at) (drop at s)) from) ++ drop (octets g (h .«frame_type»)) (take (length d - to) (drop to d))
+        → Written f g r s d₀ (take to d ++ (q ++ drop (length d - to) (drop to d))) (at + m) (to + n)
+    header-written q from m n ef em en eq =
+        let p : take (length d - to) (drop to d) ≡ drop to d = part-is d to in
+        let z : drop (length d - to) (drop to d) ≡ [] = drop-of-length-le (drop to d) {i = length d - to} (omega (arith, length-drop to d)) in
+        written-step w l (take to d ++ (q ++ drop (length d - to) (drop to d))) m n (em ∙ ap (octets f) header-type) (en ∙ ap (octets g) header-type)
+        (ap (λ t. take to d ++ t)
+        (ap (λ t. q ++ t) z ∙ append-nil q ∙ eq ∙ ap₂ _++_ (header-layout from ef) (ap₂ drop (sym en) p)))

@@ -7,7 +7,7 @@ use Prim.Native.Nat.{ℕ, _≤_}
 use lib.ListN.{length}
 use Rattle.definitions.specs.Frames.{Format, Frame}
 use Rattle.recordings.specs.Placed.{Placed, done}
-use Rattle.recordings.specs.Recordings.{readRecording}
+use Rattle.recordings.specs.Recordings.{limit, readRecording}
 use Rattle.recordings.specs.Conversion.{converted, countedAt, bufferAfter}
 use Rattle.recording_reader.specs.Answers.{countsOf}
 use Rattle.recording_reader.specs.declared.Counts.{Counts}
@@ -17,9 +17,10 @@ pub record IntoBuffer (o : Placed (ℕ × List ℕ)) (d₀ d : List ℕ) (a : Co
   pub answer : countsOf a ≡ countedAt o
   pub buffer : d ≡ bufferAfter o d₀
 
--- s is the recording of the frames xs, and what a conversion of them writes has room
+-- s is the recording of the frames xs, and what a conversion of them writes is within the limit and has room
 pub record Convertible (f g : Format) (r : ℕ) (s : List ℕ) (xs : List Frame) (out : List ℕ) : Type 0 where
   pub read : readRecording f s ≡ done xs
+  pub within : length (converted f g r xs) ≤ limit
   pub room : length (converted f g r xs) ≤ length out
 
 -- whether two formats are the same

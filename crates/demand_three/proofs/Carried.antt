@@ -151,6 +151,15 @@ module _ (P Q : Frame → Type 0) (h : Frame → Frame) where
   same-map e [] s = none
   same-map e (x ∷ xs) s = first (e x (cc)) (same-map e xs (cc))
 
+-- towards the same format, every frame stays
+carried-same : (f : Format) (r : ℕ) (x : Frame) → Valid f x → carried f f r x ≡ x
+carried-same if1 r x v = refl
+carried-same if2 r x v = without-same if2 x refl v
+carried-same storage r x v = without-same storage x refl v
+
+pub all-same : (f : Format) (r : ℕ) (xs : List Frame) → Every (Valid f) xs → map (carried f f r) xs ≡ xs
+all-same f r xs vs = map-same (Valid f) (Valid f) (carried f f r) (λ x v w. carried-same f r x v) xs vs vs
+
 kept-back : (r : ℕ) (xs : List Frame) → Every (Valid if1) xs → (map (withModes r) xs ≡ xs) ↔ Every (Kept r) xs
 kept-back r xs vs =
     (same-map (Valid if1) (Kept r) (withModes r) (with-kept r) xs, map-same (Valid if1) (Kept r) (withModes r) (kept-with r) xs vs)

@@ -1,4 +1,11 @@
+-- `converter::carried_header` meets its contract: each field is the one that document 01 carries over. Assumes nothing.
 use borrow.Author.Needs.{needs}
+use native.Mathlib.Omega.{arith}
+use Rattle.bits.specs.Bits.{bits}
+use Rattle.definitions.specs.Frames.{typeIn}
+use Rattle.definitions.proofs.Tables.{sized}
+use Rattle.frame.specs.Answers.{formatOf}
+use Rattle.converter.proofs.WriteLaws.{header-carried}
 use Rattle.converter.proofs.carried_header.Statement.{statement}
 use Rattle.converter.proofs.carried_header.Tie as tie
 use Rattle.converter.proofs.carried_header.Reads as reads
@@ -7,25 +14,24 @@ use Rattle.converter.proofs.mode_for.Reads as mode-for-reads
 use Rattle.frame_reader.proofs.quality_in.Reads as quality-in-reads
 use Rattle.frame_reader.proofs.type_in.Reads as type-in-reads
 
--- src/lib.rt:82:9
 type-in-requires : tie.Need-type-in-requires
-type-in-requires c κs = ?
+type-in-requires c κs =
+    let a = c .before .args in let p = c .before .pre in omega (arith, p .2, sized (formatOf (a .f)) (typeIn (formatOf (a .f)) (bits (a .s .now))) (p .1) .some-octet)
 
--- src/lib.rt:83:9
 quality-in-requires : tie.Need-quality-in-requires
-quality-in-requires c κs = ?
+quality-in-requires c κs =
+    let a = c .before .before .args in let p = c .before .before .pre in omega (arith, p .2, sized (formatOf (a .f)) (typeIn (formatOf (a .f)) (bits (a .s .now))) (p .1) .some-octet)
 
--- src/lib.rt:84:9
 mode-for-requires : tie.Need-mode-for-requires
 mode-for-requires c κs = search needs
 
--- src/lib.rt:85:9
 mode-for-requires-2 : tie.Need-mode-for-requires-2
 mode-for-requires-2 c κs = search needs
 
--- src/lib.rt:78:1
 returns : tie.Need-returns
-returns c = ?
+returns c =
+    let a = c .before .before .before .before .before .args in
+    header-carried (formatOf (a .f)) (formatOf (a .g)) (a .r) (bits (a .s .now)) _ (c .before .before .before .before .before .pre .0) (c .before .before .before .type-in .ensures) (c .before .before .quality-in .ensures) (c .before .mode-for .ensures) (c .mode-for2 .ensures)
 
 pub carried-header-spec : {M : Type 1} → statement M
 carried-header-spec =

@@ -1,45 +1,57 @@
+-- `converter::copy_all` meets its contract: each turn copies one octet more. Assumes nothing.
+use mathlib.Core.Path.{_≡_, refl, ap, _∙_}
+use Prim.Native.Nat.{_-_, _≤_}
+use native.Mathlib.Omega.{arith}
+use lib.ListN.{length, getD, set, length-set}
+use lib.Seq.{paste, paste-zero}
+use Rattle.converter.proofs.CopyLaws.{paste-one, paste-whole}
 use Rattle.converter.proofs.copy_all.Statement.{statement}
 use Rattle.converter.proofs.copy_all.Tie as tie
 use Rattle.converter.proofs.copy_all.Reads as reads
 use Rattle.converter.proofs.copy_all.Lts as lts
 
 abbrev Inv-loop : tie.InvT-loop
-Inv-loop s out₀ n i₀ out i = ?
+Inv-loop s out₀ n i₀ out i = (i ≤ length s) × (length out ≡ length out₀) × (out ≡ paste out₀ 0 s i)
 
 abbrev μ-loop : tie.MeasureT-loop
-μ-loop s out₀ n i₀ out i = ?
+μ-loop s out₀ n i₀ out i = length s - i
 
--- src/lib.rt:44:5
 loop-holds : tie.Need-loop-holds Inv-loop μ-loop
-loop-holds c = ?
+loop-holds c =
+    (omega arith, refl, paste-zero (c .args .out .now) 0 (c .args .s .now))
 
--- src/lib.rt:45:18
 shared-slice-read-out : tie.Need-shared-slice-read-out Inv-loop μ-loop
-shared-slice-read-out c = ?
+shared-slice-read-out c =
+    omega arith
 
--- src/lib.rt:45:9
 slice-write-out : tie.Need-slice-write-out Inv-loop μ-loop
-slice-write-out c = ?
+slice-write-out c =
+    omega arith
 
--- src/lib.rt:46:9
 add-i : tie.Need-add-i Inv-loop μ-loop
-add-i c = ?
+add-i c =
+    omega arith
 
--- src/lib.rt:44:5
 loop-less : tie.Need-loop-less Inv-loop μ-loop
-loop-less c = ?
+loop-less c =
+    omega arith
 
--- src/lib.rt:44:5
 loop-again : tie.Need-loop-again Inv-loop μ-loop
-loop-again c = ?
+loop-again c =
+    let l = c .before .before .loop in
+    let a = c .before .before .before .args in (
+      omega arith,
+      length-set (l .out) _ _ ∙ l .inv .1,
+      ap (λ o. set o (l .i) (getD (a .s .now) (l .i) 0)) (l .inv .2) ∙ paste-one (a .out .now) (a .s .now) (l .i) (omega arith) (c .before .before .before .pre),
+    )
 
--- src/lib.rt:38:1
 same-length : tie.Need-same-length Inv-loop μ-loop
-same-length c = ?
+same-length c =
+    omega arith
 
--- src/lib.rt:38:1
 returns : tie.Need-returns Inv-loop μ-loop
-returns c = ?
+returns c =
+    let l = c .before .loop in let a = c .before .before .args in l .inv .2 ∙ paste-whole (a .out .now) (a .s .now) (l .i) (omega arith)
 
 pub copy-all-spec : {M : Type 1} → statement M
 copy-all-spec =

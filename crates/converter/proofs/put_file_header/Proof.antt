@@ -1,15 +1,20 @@
+-- `converter::put_file_header` meets its contract: IF1 and IF2 have no file header. Assumes nothing.
 use borrow.Author.Needs.{needs}
+use mathlib.Core.Path.{sym, ap, _∙_, subst}
+use Prim.Native.Nat.{_≤_}
+use lib.ListN.{length}
+use Rattle.definitions.specs.Reading.{overwritten}
+use Rattle.recordings.specs.Recordings.{fileHeader}
+use Rattle.frame.specs.Answers.{formatOf}
 use Rattle.converter.proofs.put_file_header.Statement.{statement}
 use Rattle.converter.proofs.put_file_header.Tie as tie
 use Rattle.converter.proofs.put_file_header.Reads as reads
 use Rattle.converter.proofs.put_file_header.Lts as lts
 use Rattle.converter.proofs.copy_all.Reads as copy-all-reads
 
--- src/lib.rt:56:24
 enum-told : tie.Need-enum-told
 enum-told c = search needs
 
--- src/lib.rt:57:24
 enum-told-2 : tie.Need-enum-told-2
 enum-told-2 c = search needs
 
@@ -17,29 +22,28 @@ enum-told-2 c = search needs
 enum-told-3 : tie.Need-enum-told-3
 enum-told-3 c = search needs
 
--- src/lib.rt:60:22
 slice-aggregate-copy-all : tie.Need-slice-aggregate-copy-all
 slice-aggregate-copy-all c = search needs
 
--- src/lib.rt:60:13
 copy-all-requires : tie.Need-copy-all-requires
-copy-all-requires c κs = ?
+copy-all-requires c κs =
+    subst (λ g. length (fileHeader (formatOf g)) ≤ length (c .before .before .before .before .before .args .out .now)) (c .before .before .enum-told3 .given .1) (c .before .before .before .before .before .pre)
 
--- src/lib.rt:51:1
 returns : tie.Need-returns
 returns c = search needs
 
--- src/lib.rt:51:1
 returns-2 : tie.Need-returns-2
 returns-2 c = search needs
 
--- src/lib.rt:51:1
 same-length : tie.Need-same-length
 same-length c = search needs
 
--- src/lib.rt:51:1
 returns-3 : tie.Need-returns-3
-returns-3 c = ?
+returns-3 c =
+    let e = sym (c .before .before .before .before .before .enum-told3 .given .1) in (
+      ap (λ g. length (fileHeader (formatOf g))) e,
+      c .before .before .copy-all .ensures ∙ ap (λ g. overwritten (fileHeader (formatOf g)) (c .before .before .before .before .before .before .before .before .args .out .now)) e,
+    )
 
 pub put-file-header-spec : {M : Type 1} → statement M
 put-file-header-spec =

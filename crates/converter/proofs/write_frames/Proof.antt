@@ -1,3 +1,14 @@
+-- `converter::write_frames` meets its contract: what is written and what is still to come make the conversion. Assumes nothing.
+use borrow.Author.Needs.{needs}
+use mathlib.Core.Path.{_≡_, ap, _∙_}
+use Prim.Native.Nat.{ℕ, _+_, _-_, _<_, _≤_}
+use native.Mathlib.Omega.{arith}
+use lib.ListN.{length, length-append, length-drop}
+use Rattle.definitions.specs.Frames.{octets}
+use Rattle.definitions.proofs.Tables.{known-below, sized}
+use Rattle.frame.specs.Answers.{formatOf}
+use Rattle.recordings.specs.Recordings.{limit}
+use Rattle.converter.proofs.WriteLaws.{header-room, header-long, Written, written-start, written-end, at-front, front-octets, front-room, part-known, part-octets, header-type, header-known, header-writable, header-written}
 use Rattle.converter.proofs.write_frames.Statement.{statement}
 use Rattle.converter.proofs.write_frames.Tie as tie
 use Rattle.converter.proofs.write_frames.Reads as reads
@@ -10,94 +21,132 @@ use Rattle.frame_builder.proofs.write_frame.Reads as write-frame-reads
 use Rattle.recording_reader.proofs.header_octets.Reads as header-octets-reads
 
 abbrev Inv-loop : tie.InvT-loop
-Inv-loop f g r s out₀ at₀ to₀ out at to = ?
+Inv-loop f g r s out₀ at₀ to₀ out at to = Written (formatOf f) (formatOf g) r s out₀ out at to
 
 abbrev μ-loop : tie.MeasureT-loop
-μ-loop f g r s out₀ at₀ to₀ out at to = ?
+μ-loop f g r s out₀ at₀ to₀ out at to = length s - at
 
--- src/lib.rt:99:9
+-- the frame at hand: its type, and the places behind it
+type-there : (c : tie.After-carried-header Inv-loop μ-loop) → c .carried-header .result .«frame_type» < 16
+type-there c =
+    let h = c .carried-header in
+    known-below _ (header-known (c .before .before .before .loop .inv) (c .before .before .loop-test .taken) (h .result) (c .before .before .before .before .before .before .before .before .before .before .before .pre .0) (c .before .before .before .before .before .before .before .before .before .before .before .pre .1) (h .ensures))
+
+type-is : (c : tie.After-carried-header Inv-loop μ-loop)
+    → c .carried-header .result .«frame_type» ≡ at-front (c .before .before .before .loop .inv) (c .before .before .loop-test .taken) .x .type
+type-is c =
+    let h = c .carried-header in
+    header-type (c .before .before .before .loop .inv) (c .before .before .loop-test .taken) (h .result) (c .before .before .before .before .before .before .before .before .before .before .before .pre .0) (c .before .before .before .before .before .before .before .before .before .before .before .pre .1) (h .ensures)
+
+room-there : (c : tie.After-carried-header Inv-loop μ-loop) → c .before .before .before .loop .to ≤ length (c .before .before .before .loop .out)
+room-there c = omega (arith, front-room (c .before .before .before .loop .inv) (c .before .before .loop-test .taken) .0)
+
+at-there : (c : tie.After-carried-header Inv-loop μ-loop) (m : ℕ) → m ≡ octets (formatOf (c .before .before .before .before .before .before .before .before .before .before .before .args .f)) (c .carried-header .result .«frame_type»)
+    → (1 ≤ m) × (c .before .before .before .loop .at + m ≤ length (c .before .before .before .before .before .before .before .before .before .before .before .args .s .now))
+at-there c m e =
+    let f = formatOf (c .before .before .before .before .before .before .before .before .before .before .before .args .f) in
+    let w = c .before .before .before .loop .inv in
+    let l = c .before .before .loop-test .taken in
+    let x = at-front w l .x in
+    let q : m ≡ octets (formatOf (c .before .before .before .before .before .before .before .before .before .before .before .args .f)) (at-front (c .before .before .before .loop .inv) (c .before .before .loop-test .taken) .x .type) = e ∙ ap (octets f) (type-is c) in
+    (omega (arith, sized f (x .type) (at-front w l .valid .type-known) .some-octet), omega (arith, front-octets w l, w .within))
+
+to-there : (c : tie.After-carried-header Inv-loop μ-loop) (m : ℕ) → m ≡ octets (formatOf (c .before .before .before .before .before .before .before .before .before .before .before .args .g)) (c .carried-header .result .«frame_type»)
+    → c .before .before .before .loop .to + m ≤ limit
+to-there c m e =
+    let q : m ≡ octets (formatOf (c .before .before .before .before .before .before .before .before .before .before .before .args .g)) (at-front (c .before .before .before .loop .inv) (c .before .before .loop-test .taken) .x .type) = e ∙ ap (octets (formatOf (c .before .before .before .before .before .before .before .before .before .before .before .args .g))) (type-is c) in
+    omega (arith, front-room (c .before .before .before .loop .inv) (c .before .before .loop-test .taken) .1)
+
 header-octets-requires : tie.Need-header-octets-requires Inv-loop μ-loop
-header-octets-requires c κs = ?
+header-octets-requires c κs =
+    search needs
 
--- src/lib.rt:100:9
 put-file-header-requires : tie.Need-put-file-header-requires Inv-loop μ-loop
-put-file-header-requires c κs = ?
+put-file-header-requires c κs =
+    let p = c .before .before .before .before .pre .2 in header-room (formatOf (c .before .before .before .before .args .f)) (formatOf (c .before .before .before .before .args .g)) (c .before .before .before .before .args .r) (p .0) (c .before .before .before .before .args .out .now) (p .1 .room)
 
--- src/lib.rt:101:5
 loop-holds : tie.Need-loop-holds Inv-loop μ-loop
-loop-holds c = ?
+loop-holds c =
+    let a = c .before .before .before .before .before .before .before .args in let p = c .before .before .before .before .before .before .before .pre .2 in written-start (formatOf (a .f)) (formatOf (a .g)) (a .r) (a .s .now) (a .out .now) _ (p .0) _ _ (λ i. c .before .before .before .before .before .before .shared-slice-known .given i .fits) (p .1 .read) (p .1 .within) (p .1 .room) (c .before .before .before .before .header-octets .ensures .0) (c .before .before .put-file-header .ensures .0) (c .before .before .put-file-header .ensures .1)
 
--- src/lib.rt:102:21
 sub-front : tie.Need-sub-front Inv-loop μ-loop
-sub-front c = ?
+sub-front c =
+    search needs
 
--- src/lib.rt:102:21
 part-front-start : tie.Need-part-front-start Inv-loop μ-loop
-part-front-start c = ?
+part-front-start c =
+    search needs
 
--- src/lib.rt:102:21
 part-front-end : tie.Need-part-front-end Inv-loop μ-loop
-part-front-end c = ?
+part-front-end c =
+    search needs
 
--- src/lib.rt:103:13
 carried-header-requires : tie.Need-carried-header-requires Inv-loop μ-loop
-carried-header-requires c κs = ?
+carried-header-requires c κs =
+    let l = c .before .before .loop in (c .before .before .before .before .before .before .before .before .before .before .pre .0, part-known (l .inv) (c .before .loop-test .taken), part-octets (l .inv) (c .before .loop-test .taken))
 
--- src/lib.rt:104:17
 cast-t : tie.Need-cast-t Inv-loop μ-loop
-cast-t c = ?
+cast-t c =
+    search needs
 
--- src/lib.rt:105:34
 header-bits-requires : tie.Need-header-bits-requires Inv-loop μ-loop
-header-bits-requires c κs = ?
+header-bits-requires c κs =
+    search needs
 
--- src/lib.rt:105:53
 sub-write-frame : tie.Need-sub-write-frame Inv-loop μ-loop
-sub-write-frame c = ?
+sub-write-frame c =
+    room-there (c .before .before)
 
--- src/lib.rt:105:53
 part-write-frame-start : tie.Need-part-write-frame-start Inv-loop μ-loop
-part-write-frame-start c = ?
+part-write-frame-start c =
+    room-there (c .before .before)
 
--- src/lib.rt:105:53
 part-write-frame-end : tie.Need-part-write-frame-end Inv-loop μ-loop
-part-write-frame-end c = ?
+part-write-frame-end c =
+    search needs
 
--- src/lib.rt:105:9
 write-frame-requires : tie.Need-write-frame-requires Inv-loop μ-loop
-write-frame-requires c κs = ?
+write-frame-requires c κs =
+    let h = c .before .before .before .carried-header in
+    header-writable (c .before .before .before .before .before .before .loop .inv) (c .before .before .before .before .before .loop-test .taken) (h .result) (c .before .before .before .before .before .before .before .before .before .before .before .before .before .before .pre .0) (c .before .before .before .before .before .before .before .before .before .before .before .before .before .before .pre .1) (h .ensures) _ (c .before .header-bits .ensures .0)
 
--- src/lib.rt:106:15
 octets-of-requires : tie.Need-octets-of-requires Inv-loop μ-loop
-octets-of-requires c κs = ?
+octets-of-requires c κs =
+    type-there (c .before .before .before .before .before .before)
 
--- src/lib.rt:106:9
 add-at : tie.Need-add-at Inv-loop μ-loop
-add-at c = ?
+add-at c =
+    omega (arith, at-there (c .before .before .before .before .before .before .before) _ (c .octets-of .ensures .0))
 
--- src/lib.rt:107:15
 octets-of-requires-2 : tie.Need-octets-of-requires-2 Inv-loop μ-loop
-octets-of-requires-2 c κs = ?
+octets-of-requires-2 c κs =
+    type-there (c .before .before .before .before .before .before .before)
 
--- src/lib.rt:107:9
 add-to : tie.Need-add-to Inv-loop μ-loop
-add-to c = ?
+add-to c =
+    omega (arith, to-there (c .before .before .before .before .before .before .before .before) _ (c .octets-of2 .ensures .0))
 
--- src/lib.rt:101:5
 loop-less : tie.Need-loop-less Inv-loop μ-loop
-loop-less c = ?
+loop-less c =
+    omega (arith, at-there (c .before .before .before .before .before .before .before .before) _ (c .before .octets-of .ensures .0))
 
--- src/lib.rt:101:5
 loop-again : tie.Need-loop-again Inv-loop μ-loop
-loop-again c = ?
+loop-again c =
+    let h = c .before .before .before .before .before .before .before .before .carried-header in
+    header-written (c .before .before .before .before .before .before .before .before .before .before .before .loop .inv) (c .before .before .before .before .before .before .before .before .before .before .loop-test .taken) (h .result) (c .before .before .before .before .before .before .before .before .before .before .before .before .before .before .before .before .before .before .before .pre .0) (c .before .before .before .before .before .before .before .before .before .before .before .before .before .before .before .before .before .before .before .pre .1) (h .ensures) _ (c .before .before .before .before .before .before .header-bits .result) (c .before .octets-of .result) (c .octets-of2 .result)
+    (c .before .before .before .before .before .before .header-bits .ensures .0) (c .before .octets-of .ensures .0) (c .octets-of2 .ensures .0) (c .before .before .before .before .write-frame .ensures)
 
--- src/lib.rt:95:1
 same-length : tie.Need-same-length Inv-loop μ-loop
-same-length c = ?
+same-length c =
+    let a = c .before .before .before .before .before .before .before .before .before .args in
+    let p = c .before .before .before .before .before .before .before .before .before .pre .2 in
+    c .before .loop .inv .as-long ∙ header-long (formatOf (a .f)) (formatOf (a .g)) (a .r) (p .0) (a .out .now) _ (p .1 .room) (c .before .before .before .before .put-file-header .ensures .1)
 
--- src/lib.rt:95:1
 returns : tie.Need-returns Inv-loop μ-loop
-returns c = ?
+returns c =
+    λ xs p.
+    let a = c .before .before .before .before .before .before .before .before .before .args in
+    written-end (formatOf (a .f)) (formatOf (a .g)) (a .r) (a .s .now) (a .out .now) _ (c .before .loop .out) (c .before .loop .at) (c .before .loop .to) xs (omega arith) (c .before .loop .inv) (c .before .before .before .before .put-file-header .ensures .1) (p .read)
 
 pub write-frames-spec : {M : Type 1} → statement M
 write-frames-spec =

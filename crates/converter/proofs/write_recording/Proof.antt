@@ -1,4 +1,11 @@
+-- `converter::write_recording` meets its contract: towards its own format a recording is what a conversion writes. Assumes nothing.
 use borrow.Author.Needs.{needs}
+use mathlib.Core.Path.{sym, ap, _∙_}
+use native.Mathlib.Omega.{arith}
+use lib.ListN.{length}
+use Rattle.definitions.specs.Reading.{overwritten}
+use Rattle.frame.specs.Answers.{formatOf}
+use Rattle.converter.proofs.CallLaws.{copied-whole}
 use Rattle.converter.proofs.write_recording.Statement.{statement}
 use Rattle.converter.proofs.write_recording.Tie as tie
 use Rattle.converter.proofs.write_recording.Reads as reads
@@ -6,27 +13,27 @@ use Rattle.converter.proofs.write_recording.Lts as lts
 use Rattle.converter.proofs.copy_all.Reads as copy-all-reads
 use Rattle.converter.proofs.write_frames.Reads as write-frames-reads
 
--- src/lib.rt:117:9
 copy-all-requires : tie.Need-copy-all-requires
-copy-all-requires c κs = ?
+copy-all-requires c κs =
+    let a = c .before .before .before .before .args in let p = c .before .before .before .before .pre .2 in omega (arith, p .1 .room, ap length (copied-whole (formatOf (a .f)) (formatOf (a .g)) (a .r) (a .s .now) (p .0) (λ i. c .before .before .before .shared-slice-known .given i .fits) (c .before .before .before .before .pre .0 .equal (c .before .if1 .taken)) (p .1 .read)))
 
--- src/lib.rt:119:9
 write-frames-requires : tie.Need-write-frames-requires
-write-frames-requires c κs = ?
+write-frames-requires c κs =
+    let p = c .before .before .before .before .pre in (p .0 .unequal (c .before .if1 .left), p .1, p .2)
 
--- src/lib.rt:112:1
 same-length : tie.Need-same-length
 same-length c = search needs
 
--- src/lib.rt:112:1
 returns : tie.Need-returns
-returns c = ?
+returns c =
+    λ xs p.
+    let a = c .before .before .before .before .before .before .before .args in
+    c .before .before .copy-all .ensures
+    ∙ ap (λ w. overwritten w (a .out .now)) (sym (copied-whole (formatOf (a .f)) (formatOf (a .g)) (a .r) (a .s .now) xs (λ i. c .before .before .before .before .before .before .shared-slice-known .given i .fits) (c .before .before .before .before .before .before .before .pre .0 .equal (c .before .before .before .before .if1 .taken)) (p .read)))
 
--- src/lib.rt:112:1
 same-length-2 : tie.Need-same-length-2
 same-length-2 c = search needs
 
--- src/lib.rt:112:1
 returns-2 : tie.Need-returns-2
 returns-2 c = search needs
 
