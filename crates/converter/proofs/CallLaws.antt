@@ -131,7 +131,7 @@ planned-is f g r s k need h = go (readRecording f s) refl h
           written = ap (planned f g r) e ∙ ap (λ t. unlessAt 9 t (done (length xs, converted f g r xs))) (b .0);
         }
 
-refused-is : (o : Placed (ℕ × List ℕ)) (n k at : ℕ) → refusedAt n k at ≡ countedAt o → o ≡ refusedAt n k at
+pub refused-is : (o : Placed (ℕ × List ℕ)) (n k at : ℕ) → refusedAt n k at ≡ countedAt o → o ≡ refusedAt n k at
 refused-is (refusedAt m j p) n k at h =
     let a : m ≡ n = cc in
     let b : j ≡ k = cc in

@@ -1,20 +1,14 @@
--- The answers of the C interface as numbers. Every field that is not named for an answer is 0, and at a refusal every field but its
+-- The answers of level two's own calls as numbers. Every field that is not named for an answer is 0, and at a refusal every field but its
 -- number is. A refusal of these calls carries frame and octet 0, since they are outside a recording (document 01, "Order").
 use mathlib.Core.Path.{_≡_}
 use mathlib.Core.List.{List}
 use Prim.Native.Nat.{ℕ}
 use Rattle.definitions.specs.Outcome.{Outcome, refused, ok}
 use Rattle.definitions.specs.Frames.{Frame}
-use Rattle.definitions.specs.Reading.{coreAfter, counted, outputAfter}
+use Rattle.definitions.specs.Reading.{coreAfter}
 use Rattle.definitions.specs.Reception.{SpeechClass, speech-good, speech-bad, SidClass, sid-first, sid-update, sid-bad, Reception, speech, sid, speech-lost, no-data}
-use Rattle.level_two.specs.declared.Answer.{Answer}
 use Rattle.level_two.specs.declared.FrameAnswer.{FrameAnswer}
 use Rattle.level_two.specs.declared.ClassAnswer.{ClassAnswer}
-
--- octets written
-abbrev pub answerNumbers : Outcome ℕ → Answer
-answerNumbers (refused n) = record { refusal = n; frame = 0; octet = 0; frames = 0; octets = 0 }
-answerNumbers (ok m) = record { refusal = 0; frame = 0; octet = 0; frames = 0; octets = m }
 
 -- the fields, and the octets of the packed core
 abbrev pub frameNumbers : Outcome (Frame × ℕ) → FrameAnswer
@@ -62,8 +56,3 @@ classNumbers (ok c) = record { refusal = 0; frame = 0; octet = 0; class = classN
 pub record FlatFrame (o : Outcome (Frame × ℕ)) (d₀ d : List ℕ) (r : FrameAnswer) : Type 0 where
   pub answer : r ≡ frameNumbers o
   pub buffer : d ≡ coreAfter o d₀
-
--- a call that builds a frame: the answer, and the output buffer
-pub record FlatOutput (o : Outcome (List ℕ)) (d₀ d : List ℕ) (r : Answer) : Type 0 where
-  pub answer : r ≡ answerNumbers (counted o)
-  pub buffer : d ≡ outputAfter o d₀

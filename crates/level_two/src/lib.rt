@@ -5,24 +5,19 @@ ghost use lib.ListN.{length};
 ghost use Rattle.definitions.specs.Frames.{if1, if2, storage};
 ghost use Rattle.definitions.specs.Reading.{readCall, buildFrame};
 ghost use Rattle.definitions.specs.Reception.{receptionClass};
-ghost use Rattle.level_two.specs.Flat.{FlatFrame, FlatOutput, answerNumbers, speechNumber, sidNumber, classNumber, classNumbers};
-ghost use Rattle.frame.specs.Answers.{builtOf};
+ghost use Rattle.recordings.specs.Recordings.{validateCall};
+ghost use Rattle.recordings.specs.Conversion.{convertCall, lengthCall};
+ghost use Rattle.answers.specs.Flat.{placedNumbers, FlatConversion, FlatOutput};
+ghost use Rattle.level_two.specs.Flat.{FlatFrame, speechNumber, sidNumber, classNumber, classNumbers};
 ghost use Rattle.reception.specs.Classes.{speechOf, sidOf, receptionOf};
-use frame::Built;
+use answers::Answer;
+use answers::built_answer;
+use answers::counts_answer;
 use frame::Reading;
 use reception::Classified;
 use reception::Reception;
 use reception::SidClass;
 use reception::SpeechClass;
-
-#[repr(C)]
-pub struct Answer {
-    pub refusal: u64,
-    pub frame: u64,
-    pub octet: u64,
-    pub frames: u64,
-    pub octets: u64,
-}
 
 #[repr(C)]
 pub struct FrameAnswer {
@@ -44,25 +39,31 @@ pub struct ClassAnswer {
     pub class: u64,
 }
 
-fn answer_of(b: Built) -> Answer
-    ensures { λ r. ⌜ r ≡ answerNumbers (builtOf b) ⌝ }
+#[no_mangle]
+pub extern "C" fn amrwb_validate(format: u64, rec: &[u8]) -> Answer
+    ensures { λ r. ⌜ r ≡ placedNumbers (validateCall format (now (rec .entry))) ⌝ }
 {
-    match b {
-        Built::Octets(n) => Answer {
-            refusal: 0,
-            frame: 0,
-            octet: 0,
-            frames: 0,
-            octets: n as u64,
-        },
-        Built::Refused(e) => Answer {
-            refusal: frame::refusal_number(e),
-            frame: 0,
-            octet: 0,
-            frames: 0,
-            octets: 0,
-        },
-    }
+    counts_answer(recording_reader::validate(format, rec))
+}
+
+#[no_mangle]
+pub extern "C" fn amrwb_convert(
+    from: u64,
+    to: u64,
+    request: u64,
+    rec: &[u8],
+    out: &mut [u8],
+) -> Answer
+    ensures { λ r. ⌜ FlatConversion (convertCall from to request (now (rec .entry)) (length (now (out .entry)))) (now (out .entry)) (now (out .exit)) r ⌝ }
+{
+    counts_answer(converter::convert(from, to, request, rec, out))
+}
+
+#[no_mangle]
+pub extern "C" fn amrwb_convert_length(from: u64, to: u64, request: u64, rec: &[u8]) -> Answer
+    ensures { λ r. ⌜ r ≡ placedNumbers (lengthCall from to request (now (rec .entry))) ⌝ }
+{
+    counts_answer(converter::convert_length(from, to, request, rec))
 }
 
 #[no_mangle]
@@ -104,7 +105,7 @@ pub extern "C" fn amrwb_build_if1(
 ) -> Answer
     ensures { λ r. ⌜ FlatOutput (buildFrame if1 «frame_type» quality indication request (now (core .entry)) (length (now (out .entry)))) (now (out .entry)) (now (out .exit)) r ⌝ }
 {
-    answer_of(frame_builder::build_if1(frame_type, quality, indication, request, core, out))
+    built_answer(frame_builder::build_if1(frame_type, quality, indication, request, core, out))
 }
 
 #[no_mangle]
@@ -116,7 +117,7 @@ pub extern "C" fn amrwb_build_if2(
 ) -> Answer
     ensures { λ r. ⌜ FlatOutput (buildFrame if2 «frame_type» quality 0 0 (now (core .entry)) (length (now (out .entry)))) (now (out .entry)) (now (out .exit)) r ⌝ }
 {
-    answer_of(frame_builder::build_if2(frame_type, quality, core, out))
+    built_answer(frame_builder::build_if2(frame_type, quality, core, out))
 }
 
 #[no_mangle]
@@ -128,7 +129,7 @@ pub extern "C" fn amrwb_build_stored(
 ) -> Answer
     ensures { λ r. ⌜ FlatOutput (buildFrame storage «frame_type» quality 0 0 (now (core .entry)) (length (now (out .entry)))) (now (out .entry)) (now (out .exit)) r ⌝ }
 {
-    answer_of(frame_builder::build_storage(frame_type, quality, core, out))
+    built_answer(frame_builder::build_storage(frame_type, quality, core, out))
 }
 
 fn speech_number(s: SpeechClass) -> u64

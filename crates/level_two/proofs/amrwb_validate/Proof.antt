@@ -1,0 +1,23 @@
+-- `amrwb_validate` meets its contract: the entry's promise, as numbers. Assumes nothing.
+use borrow.Author.Needs.{needs}
+use mathlib.Core.Path.{ap, _∙_}
+use Rattle.answers.specs.Flat.{placedNumbers}
+use Rattle.level_two.proofs.amrwb_validate.Statement.{statement}
+use Rattle.level_two.proofs.amrwb_validate.Tie as tie
+use Rattle.level_two.proofs.amrwb_validate.Reads as reads
+use Rattle.level_two.proofs.amrwb_validate.Lts as lts
+use Rattle.answers.proofs.counts_answer.Reads as counts-answer-reads
+use Rattle.recording_reader.proofs.validate.Reads as validate-reads
+
+validate-requires : tie.Need-validate-requires
+validate-requires c κs = search needs
+
+counts-answer-requires : tie.Need-counts-answer-requires
+counts-answer-requires c κs = search needs
+
+returns : tie.Need-returns
+returns c =
+    c .counts-answer .ensures ∙ ap placedNumbers (c .before .validate .ensures)
+
+pub amrwb-validate-spec : {M : Type 1} → statement M
+amrwb-validate-spec = tie.close (tie.spec validate-requires counts-answer-requires returns)
