@@ -1,10 +1,15 @@
-.PHONY: demo test
+.PHONY: demo test bench
 
-# builds one SID frame in each format and reads it back
+# converts a sample recording from storage format to IF1, to IF2 and back
 demo:
 	@tests/build demo
 	@target/tools/demo
 
-# everything: proofs, must-fail edits, the compiled library against the second program
+# everything: proofs, must-fail edits, the compiled libraries against the second program
 test:
 	@tests/run
+
+# how fast the library converts, beside a plain Rust converter: Markdown tables
+bench:
+	@tests/build bench
+	@target/tools/bench

@@ -1,14 +1,22 @@
-/* The AMR-WB voice adapter's C interface. It holds what level two has so far: one frame, and the reception class.
+/* The AMR-WB voice adapter's C interface: whole recordings, one frame, and the reception class. Level one's library has the calls for
+ * recordings, with formats 1 and 2; level two's has every call here, with formats 1 to 3.
  *
  * Octets are lent as a pointer and a length; a length of 0 may come with any pointer that is not null. The lent buffers of one call
  * must not overlap. No call keeps a pointer, uses the heap or fails in another way than by its answer.
  *
+ * A format is 1 IF1, 2 IF2 or 3 stored (format 3 is refusal 11 in level one). A recording is its frames joined, none or more, at most
+ * 16,777,215 octets; a stored one begins with the nine octets "#!AMR-WB\n", which count too.
+ *
  * Every answer begins with refusal, frame and octet. refusal is 0, or the number of why the call was refused:
  *   1 no octets              2 reserved frame type (10 to 13)    3 fewer octets than the type's    4 octets behind a single frame
- *   5 spare or filling bit 1 6 a mode or field out of range      7 CRC                             10 buffer shorter than needed
+ *   5 spare or filling bit 1 6 a mode or field out of range      7 CRC                             8 header of a stored recording
+ *   9 recording too long, read or about to be written           10 buffer shorter than needed
  *   11 another argument out of its range
- * Where several apply, the one that comes first in the order 11, 1 to 7, 10 is given. frame and octet are 0 in these calls. At a
- * refusal every other field is 0, and no lent octet is changed. Otherwise octets of a buffer beyond the written ones stay.
+ * Where several apply, the one that comes first in this order is given: 11, 9 for what is read, 8, the first refused frame by 1 to 7, 9
+ * for what would be written, 10. 1 and 4 come in a call for one frame only, 8 and 9 in a call for a recording only. At 2 to 7 in a
+ * recording, frame counts its frames from 0, and octet is the place of that frame's first octet, from 0 at the recording's start, header
+ * included; else both are 0. At a refusal every other field is 0, and no lent octet is changed. Otherwise octets of a buffer beyond the
+ * written ones stay.
  *
  * A frame type is 0 to 9, 14 or 15; quality is the FQI (0 bad, 1 good); indication and request are modes, 0 to 8. A core is packed:
  * d(0) is the top bit of its first octet, and filling bits are 0. Type 0 to 9 has 17, 23, 32, 36, 40, 46, 50, 58, 60, 5 octets
@@ -25,7 +33,7 @@ extern "C" {
 
 typedef struct {
     uint64_t refusal, frame, octet;
-    uint64_t frames; /* 0 in the calls below */
+    uint64_t frames; /* frames read; 0 in a call for one frame */
     uint64_t octets; /* octets written */
 } amrwb_answer;
 
@@ -46,7 +54,23 @@ typedef struct {
     /* 1 speech good, 2 speech bad, 3 SID first, 4 SID update, 5 SID bad, 6 speech lost, 7 no data */
 } amrwb_class_answer;
 
-/* Reads one frame of a format (1 IF1, 2 IF2, 3 stored) that takes all of octets, and writes its packed core to core. */
+/* Levels one and two: recordings. */
+
+/* Reads the recording rec of a format to its end. octets is 0. */
+amrwb_answer amrwb_validate(uint64_t format, const uint8_t *rec, size_t len);
+
+/* Reads the whole recording rec, then writes the same frames in another format, or in the same one, to out. Towards IF1 from IF2 or stored
+ * a frame gets its type as indication (type 9: 0) and this request, types 14 and 15 neither, and the CRC is computed; IF1 to IF1 keeps
+ * its own. request is 0 to 8 (else 11), also where it is not used. */
+amrwb_answer amrwb_convert(uint64_t from, uint64_t to, uint64_t request, const uint8_t *rec, size_t len, uint8_t *out,
+                           size_t out_len);
+
+/* As amrwb_convert, but writes nothing: octets is what the conversion needs of out. Never 10. */
+amrwb_answer amrwb_convert_length(uint64_t from, uint64_t to, uint64_t request, const uint8_t *rec, size_t len);
+
+/* Level two: one frame, and the reception class. */
+
+/* Reads one frame of a format that takes all of octets, and writes its packed core to core. */
 amrwb_frame amrwb_read_frame(uint64_t format, const uint8_t *octets, size_t len, uint8_t *core, size_t core_len);
 
 /* Build a frame to out from its fields and its packed core, which must have exactly the type's octets (else 11; not asked for types 10

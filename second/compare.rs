@@ -1,15 +1,12 @@
 //! Compares the compiled, proved library with the second program on many calls, valid and damaged: the answer, and every lent octet
 //! (buffers hold a pattern before the call). The first argument is the number of calls, the second the seed.
+mod compare_recordings;
 mod frame;
+mod random;
+mod recording;
 
-#[repr(C)]
-struct Answer {
-    refusal: u64,
-    frame: u64,
-    octet: u64,
-    frames: u64,
-    octets: u64,
-}
+use compare_recordings::{Answer, Recordings};
+use random::{pattern, Random, Tally, TYPES};
 
 #[repr(C)]
 struct FrameAnswer {
@@ -40,35 +37,6 @@ extern "C" {
     fn amrwb_class(t: u64, q: u64, sti: u64) -> ClassAnswer;
 }
 
-struct Random(u64);
-
-impl Random {
-    fn next(&mut self) -> u64 {
-        self.0 ^= self.0 << 13;
-        self.0 ^= self.0 >> 7;
-        self.0 ^= self.0 << 17;
-        self.0
-    }
-    fn below(&mut self, n: u64) -> u64 {
-        (self.next() >> 11) % n
-    }
-    fn one_in(&mut self, n: u64) -> bool {
-        self.below(n) == 0
-    }
-    /// Mostly a number up to most, sometimes one at or beyond a limit.
-    fn number(&mut self, most: u64) -> u64 {
-        if self.one_in(12) {
-            let far = [0, 1, 2, 8, 9, 15, 16, 255, 256, 257, 1 << 32, (1 << 32) + 1, u64::MAX - 1, u64::MAX];
-            far[self.below(far.len() as u64) as usize]
-        } else {
-            self.below(most + 1)
-        }
-    }
-    fn octets(&mut self, n: usize) -> Vec<u8> {
-        (0..n).map(|_| self.next() as u8).collect()
-    }
-}
-
 /// A packed core of a type: mostly with its filling 0 and, of a SID frame, a mode up to 9.
 fn core(g: &mut Random, t: u64) -> Vec<u8> {
     let k = frame::core_bits(t);
@@ -86,26 +54,6 @@ fn core(g: &mut Random, t: u64) -> Vec<u8> {
     c
 }
 
-/// How often each answer came: refusal 0 is an accepted call.
-#[derive(Default)]
-struct Tally([u64; 18]);
-
-impl Tally {
-    fn count(&mut self, refusal: u64) {
-        self.0[refusal as usize] += 1;
-    }
-    /// Prints the counts; false where one of the answers never came.
-    fn show(&self, name: &str, all: &[usize]) -> bool {
-        let counts: Vec<String> = all.iter().map(|n| format!("{n}: {}", self.0[*n])).collect();
-        println!("{name} by refusal (0 accepted): {}", counts.join(", "));
-        all.iter().all(|n| self.0[*n] > 0)
-    }
-}
-
-fn pattern(n: usize) -> Vec<u8> {
-    (0..n).map(|i| (i as u8).wrapping_mul(37) ^ 0xA7).collect()
-}
-
 fn compare_read(g: &mut Random, tally: &mut Tally) -> bool {
     let format = g.number(3);
     let mut s = if g.one_in(8) {
@@ -113,7 +61,7 @@ fn compare_read(g: &mut Random, tally: &mut Tally) -> bool {
         g.octets(n)
     } else {
         let f = if (1..=3).contains(&format) { format } else { 1 + g.below(3) };
-        let t = [0, 1, 2, 3, 4, 5, 6, 7, 8, 9, 14, 15][g.below(12) as usize];
+        let t = g.one_of(&TYPES);
         let modes = f == 1 && t <= 9;
         let mut c = frame::bits(&core(g, t));
         c.resize(frame::core_bits(t), false);
@@ -170,7 +118,7 @@ fn compare_build(g: &mut Random, tally: &mut Tally) -> bool {
             _ => amrwb_build_stored(t, q, c.as_ptr(), c.len(), out.as_mut_ptr(), out.len()),
         }
     };
-    let got = [a.refusal, a.frame, a.octet, a.frames, a.octets];
+    let got = a.fields();
     let mut want_out = before.clone();
     let want = match frame::build(format, t, q, i, r, &c, before.len()) {
         Err(n) => [n, 0, 0, 0, 0],
@@ -205,14 +153,16 @@ fn compare_class(g: &mut Random, tally: &mut Tally) -> bool {
 fn main() {
     let mut args = std::env::args().skip(1).map(|a| a.parse::<u64>().expect("a number"));
     let calls = args.next().unwrap_or(100_000);
-    let mut g = Random(args.next().unwrap_or(1).wrapping_mul(0x9E37_79B9_7F4A_7C15) | 1);
+    let mut g = Random::new(args.next().unwrap_or(1));
     let (mut reads, mut builds, mut classes) = (Tally::default(), Tally::default(), Tally::default());
+    let mut recordings = Recordings::new(3);
     let mut wrong = 0;
     for _ in 0..calls {
-        let same = match g.below(8) {
+        let same = match g.below(16) {
             0..=3 => compare_read(&mut g, &mut reads),
             4..=6 => compare_build(&mut g, &mut builds),
-            _ => compare_class(&mut g, &mut classes),
+            7 => compare_class(&mut g, &mut classes),
+            _ => recordings.compare(&mut g),
         };
         if !same {
             wrong += 1;
@@ -221,14 +171,18 @@ fn main() {
             }
         }
     }
-    if wrong > 0 {
+    // long calls: only where the others agree
+    if wrong > 0 || !recordings.compare_limits() {
         println!("the library and the second program differ");
         std::process::exit(1);
     }
-    let all = reads.show("read", &[0, 1, 2, 3, 4, 5, 6, 7, 10, 11]) & builds.show("build", &[0, 2, 5, 6, 10, 11]) & classes.show("class", &[0, 2, 11]);
+    let all = reads.show("read", &[0, 1, 2, 3, 4, 5, 6, 7, 10, 11])
+        & builds.show("build", &[0, 2, 5, 6, 10, 11])
+        & classes.show("class", &[0, 2, 11])
+        & recordings.show();
     if !all {
         println!("some answer never came: the calls are too few");
         std::process::exit(1);
     }
-    println!("the library and the second program agree on {calls} calls");
+    println!("the library and the second program agree on {calls} calls, and at the length limit");
 }

@@ -31,6 +31,11 @@ pub fn core_bits(ftype: u64) -> usize {
     sizes(ftype).map_or(0, |s| s.0)
 }
 
+/// Octets of a whole frame; None for the reserved types.
+pub fn octets(format: u64, ftype: u64) -> Option<usize> {
+    sizes(ftype).map(|s| s.2[format as usize - 1])
+}
+
 pub fn bits(octets: &[u8]) -> Vec<bool> {
     octets.iter().flat_map(|o| (0..8).map(move |i| o >> (7 - i) & 1 == 1)).collect()
 }

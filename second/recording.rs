@@ -1,0 +1,93 @@
+//! Whole recordings, written from the papers (document 01, "Recordings and conversion") in the plainest way: all frames are read into a
+//! vector, each is carried over, and the new ones are laid out. It shares no code with crates/ or benches/.
+use crate::frame::{self, Frame};
+
+pub const LIMIT: usize = 16_777_215;
+pub const HEADER: &[u8] = b"#!AMR-WB\n";
+
+/// A refusal's number, with the frame and the octet where it lies.
+#[derive(Clone, Copy, PartialEq, Debug)]
+pub struct Refusal(pub u64, pub u64, pub u64);
+
+fn outside(number: u64) -> Refusal {
+    Refusal(number, 0, 0)
+}
+
+fn header(format: u64) -> &'static [u8] {
+    if format == 3 { HEADER } else { &[] }
+}
+
+/// The frames of a recording, its format and length in range.
+fn frames(format: u64, rec: &[u8]) -> Result<Vec<Frame>, Refusal> {
+    if !rec.starts_with(header(format)) {
+        return Err(outside(8));
+    }
+    let mut list = Vec::new();
+    let mut at = header(format).len();
+    while at < rec.len() {
+        let rest = &rec[at..];
+        let ftype = if format == 3 { rest[0] >> 3 & 15 } else { rest[0] >> 4 } as u64;
+        // A frame ends where its type says; read refuses a reserved type and too few octets itself.
+        let n = frame::octets(format, ftype).unwrap_or(1).min(rest.len());
+        match frame::read(format, &rest[..n], usize::MAX) {
+            Ok(x) => list.push(x),
+            Err(number) => return Err(Refusal(number, list.len() as u64, at as u64)),
+        }
+        at += n;
+    }
+    Ok(list)
+}
+
+/// The frame in the format that it is converted to.
+fn carried(from: u64, to: u64, request: u64, x: Frame) -> Frame {
+    let (indication, request) = match (from, to, x.ftype) {
+        (1, 1, _) => (x.indication, x.request),
+        (_, 1, 0..=8) => (x.ftype, request),
+        (_, 1, 9) => (0, request),
+        _ => (0, 0),
+    };
+    Frame { indication, request, ..x }
+}
+
+/// Frames of a recording. `last` is the level's last format: 2 in level one, 3 in level two.
+pub fn validate(last: u64, format: u64, rec: &[u8]) -> Result<usize, Refusal> {
+    if format < 1 || format > last {
+        return Err(outside(11));
+    }
+    if rec.len() > LIMIT {
+        return Err(outside(9));
+    }
+    Ok(frames(format, rec)?.len())
+}
+
+/// Frames of a recording, and its octets in another format.
+pub type Converted = Result<(usize, Vec<u8>), Refusal>;
+
+/// A conversion, judged up to 9 for what would be written.
+pub fn converted(last: u64, from: u64, to: u64, request: u64, rec: &[u8]) -> Converted {
+    if from < 1 || from > last || to < 1 || to > last || request > 8 {
+        return Err(outside(11));
+    }
+    if rec.len() > LIMIT {
+        return Err(outside(9));
+    }
+    let list = frames(from, rec)?;
+    let count = list.len();
+    let mut out = header(to).to_vec();
+    for x in list {
+        out.extend(frame::layout(to, &carried(from, to, request, x)));
+    }
+    if out.len() > LIMIT {
+        return Err(outside(9));
+    }
+    Ok((count, out))
+}
+
+/// What a conversion does with a buffer of so many octets: 10 is judged last.
+pub fn into_buffer(done: &Converted, room: usize) -> Result<&(usize, Vec<u8>), Refusal> {
+    let done = done.as_ref().map_err(|refusal| *refusal)?;
+    if room < done.1.len() {
+        return Err(outside(10));
+    }
+    Ok(done)
+}
