@@ -1,51 +1,42 @@
--- Document 01's table by rows, and one test that antt computes over its 80 entries. Assumes nothing.
-use mathlib.Core.Path.{_≡_, refl, sym, ap₂, _∙_}
+-- Document 01's rows: those of the reserved types, and one test of the largest entry that antt computes. Assumes nothing.
+use mathlib.Core.Path.{_≡_, refl}
 use mathlib.Core.Bool.{Bool, true, _&&_}
-use mathlib.Core.List.{List, [], _∷_}
-use Prim.Native.Nat.{ℕ, zero, suc, _+_, _*_, _/_, _%_, _<_, _≤_}
-use native.Mathlib.Omega.{arith}
+use Prim.Native.Nat.{ℕ, _<_, _≤_}
 use lib.Dec.{eqb, leb}
-use lib.ListN.{getD}
-use borrow.Author.Tests.{eqb-true, leb-true}
+use borrow.Author.Tests.{leb-true, ne-eqb}
 use Rattle.bits.proofs.Tests.{and-left, and-right, every-below}
-use Rattle.definitions.specs.Frames.{coreBits, classA, octets}
-use Rattle.frame.specs.Columns.{column}
+use Rattle.definitions.specs.Frames.{Format, if1, if2, storage, coreBits, classA, octets}
+use Rattle.frame.specs.Rows.{rowWith, rowFor}
 
--- the rows as `TYPES` of src/table.rt has them: antt computes both to the same numbers
-abbrev rowOf : ℕ → List ℕ
-rowOf t = column 0 t ∷ column 1 t ∷ column 2 t ∷ column 3 t ∷ column 4 t ∷ []
+-- a type that is in no row
+pub no-row : (t : ℕ) → (t ≡ 0 → ⊥) → (t ≡ 1 → ⊥) → (t ≡ 2 → ⊥) → (t ≡ 3 → ⊥) → (t ≡ 4 → ⊥) → (t ≡ 5 → ⊥) → (t ≡ 6 → ⊥) → (t ≡ 7 → ⊥) → (t ≡ 8 → ⊥)
+    → (t ≡ 9 → ⊥) → (t ≡ 14 → ⊥) → (t ≡ 15 → ⊥) → rowWith 0 0 0 0 0 ≡ rowFor t
+unfolding coreBits classA octets
+no-row t n₀ n₁ n₂ n₃ n₄ n₅ n₆ n₇ n₈ n₉ n₁₄ n₁₅ =
+    rw (ne-eqb t 0 n₀, ne-eqb t 1 n₁, ne-eqb t 2 n₂, ne-eqb t 3 n₃, ne-eqb t 4 n₄, ne-eqb t 5 n₅, ne-eqb t 6 n₆, ne-eqb t 7 n₇, ne-eqb t 8 n₈, ne-eqb t 9 n₉, ne-eqb t 14 n₁₄, ne-eqb t 15 n₁₅)
 
-abbrev rowsFrom : ℕ → ℕ → List (List ℕ)
-rowsFrom t zero = []
-rowsFrom t (suc n) = rowOf t ∷ rowsFrom (suc t) n
+most : ℕ → Bool
+most t = leb (coreBits t) 477 && (leb (classA t) 477 && (leb (octets if1 t) 477 && (leb (octets if2 t) 477 && leb (octets storage t) 477)))
 
-abbrev at : ℕ → ℕ → ℕ
-at t c = getD (getD (rowsFrom 0 16) t []) c 0
+-- the largest entry
+module _ (t : ℕ) (h : t < 16) where
+  tested : most t ≡ true
+  unfolding most coreBits classA octets
+  tested = every-below 16 most refl t h
 
--- the entry is document 01's, and at most the largest K
-right : ℕ → Bool
-right i = eqb (at (i / 5) (i % 5)) (column (i % 5) (i / 5)) && leb (at (i / 5) (i % 5)) 477
+  pub core-most : coreBits t ≤ 477
+  unfolding most
+  core-most = leb-true _ _ (and-left _ _ tested)
 
-module _ (t c : ℕ) (ht : t < 16) (hc : c < 5) where
-  row : (t * 5 + c) / 5 ≡ t
-  row = omega arith
+  pub class-most : classA t ≤ 477
+  unfolding most
+  class-most = leb-true _ _ (and-left _ _ (and-right (leb (coreBits t) 477) _ tested))
 
-  place : (t * 5 + c) % 5 ≡ c
-  place = omega arith
-
-  tested : right (t * 5 + c) ≡ true
-  unfolding right coreBits classA octets
-  tested = every-below 80 right refl (t * 5 + c) (omega arith)
-
-  here : at t c ≡ at ((t * 5 + c) / 5) ((t * 5 + c) % 5)
-  here = ap₂ at (sym row) (sym place)
-
-  pub entry-is : at t c ≡ column c t
-  unfolding right
-  entry-is = here ∙ eqb-true _ _ (and-left _ _ tested) ∙ ap₂ column place row
-
-  pub entry-most : at t c ≤ 477
-  unfolding right
-  entry-most =
-      let i : ℕ = t * 5 + c in
-      rw here (leb-true _ _ (and-right (eqb (at (i / 5) (i % 5)) (column (i % 5) (i / 5))) _ tested))
+  pub octets-most : (f : Format) → octets f t ≤ 477
+  unfolding most
+  octets-most if1 = leb-true _ _ (and-left _ _ (and-right (leb (classA t) 477) _ (and-right (leb (coreBits t) 477) _ tested)))
+  octets-most if2 =
+      leb-true _ _ (and-left _ _ (and-right (leb (octets if1 t) 477) _ (and-right (leb (classA t) 477) _ (and-right (leb (coreBits t) 477) _ tested))))
+  octets-most storage =
+      leb-true _ _
+      (and-right (leb (octets if2 t) 477) _ (and-right (leb (octets if1 t) 477) _ (and-right (leb (classA t) 477) _ (and-right (leb (coreBits t) 477) _ tested))))

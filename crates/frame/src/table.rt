@@ -5,33 +5,48 @@ ghost use mathlib.Core.Path.{_≡_};
 ghost use Prim.Native.Nat.{_<_, _≤_};
 ghost use Rattle.definitions.specs.Frames.{coreBits, classA, octets, carriesModes, headerBits, spareBefore, spareAfter};
 ghost use Rattle.frame.specs.Answers.{formatOf};
-ghost use Rattle.frame.specs.Columns.{column};
+ghost use Rattle.frame.specs.Rows.{rowWith, rowFor};
 
-// For each type from 0 to 15: K, Class A, and the octets in IF1, IF2 and storage format. The reserved types have 0.
-const TYPES: [[u16; 5]; 16] = [
-    [132, 54, 20, 18, 18],
-    [177, 64, 26, 23, 24],
-    [253, 72, 35, 33, 33],
-    [285, 72, 39, 37, 37],
-    [317, 72, 43, 41, 41],
-    [365, 72, 49, 47, 47],
-    [397, 72, 53, 51, 51],
-    [461, 72, 61, 59, 59],
-    [477, 72, 63, 61, 61],
-    [40, 40, 8, 6, 6],
-    [0, 0, 0, 0, 0],
-    [0, 0, 0, 0, 0],
-    [0, 0, 0, 0, 0],
-    [0, 0, 0, 0, 0],
-    [0, 0, 1, 1, 1],
-    [0, 0, 1, 1, 1],
-];
+// A row of the table: K, Class A, and the octets in IF1, IF2 and storage format.
+struct TypeRow {
+    core: usize,
+    class_a: usize,
+    if1: usize,
+    if2: usize,
+    storage: usize,
+}
 
-fn entry(t: usize, c: usize) -> usize
-    requires { ⌜ (t < 16) × (c < 5) ⌝ }
-    ensures { λ r. ⌜ (r ≡ column c t) × (r ≤ 477) ⌝ }
+fn row_of(core: usize, class_a: usize, if1: usize, if2: usize, storage: usize) -> TypeRow
+    ensures { λ r. ⌜ r ≡ rowWith core «class_a» if1 if2 storage ⌝ }
 {
-    TYPES[t][c] as usize
+    TypeRow {
+        core,
+        class_a,
+        if1,
+        if2,
+        storage,
+    }
+}
+
+// The row of a type; all 0 for the reserved ones. A `match`, since an indexed constant array would be built anew at each use.
+fn row(t: usize) -> TypeRow
+    ensures { λ r. ⌜ r ≡ rowFor t ⌝ }
+{
+    match t {
+        0 => row_of(132, 54, 20, 18, 18),
+        1 => row_of(177, 64, 26, 23, 24),
+        2 => row_of(253, 72, 35, 33, 33),
+        3 => row_of(285, 72, 39, 37, 37),
+        4 => row_of(317, 72, 43, 41, 41),
+        5 => row_of(365, 72, 49, 47, 47),
+        6 => row_of(397, 72, 53, 51, 51),
+        7 => row_of(461, 72, 61, 59, 59),
+        8 => row_of(477, 72, 63, 61, 61),
+        9 => row_of(40, 40, 8, 6, 6),
+        14 => row_of(0, 0, 1, 1, 1),
+        15 => row_of(0, 0, 1, 1, 1),
+        _ => row_of(0, 0, 0, 0, 0),
+    }
 }
 
 // K, the bits of the core.
@@ -39,7 +54,8 @@ pub fn core_bits(t: usize) -> usize
     requires { ⌜ t < 16 ⌝ }
     ensures { λ r. ⌜ (r ≡ coreBits t) × (r ≤ 477) ⌝ }
 {
-    entry(t, 0)
+    let r = row(t);
+    r.core
 }
 
 // The bits of Class A.
@@ -47,7 +63,8 @@ pub fn class_a(t: usize) -> usize
     requires { ⌜ t < 16 ⌝ }
     ensures { λ r. ⌜ (r ≡ classA t) × (r ≤ 477) ⌝ }
 {
-    entry(t, 1)
+    let r = row(t);
+    r.class_a
 }
 
 // The octets of a frame; 0 for the reserved types.
@@ -55,10 +72,11 @@ pub fn octets_of(f: Format, t: usize) -> usize
     requires { ⌜ t < 16 ⌝ }
     ensures { λ r. ⌜ (r ≡ octets (formatOf f) t) × (r ≤ 477) ⌝ }
 {
+    let r = row(t);
     match f {
-        Format::If1 => entry(t, 2),
-        Format::If2 => entry(t, 3),
-        Format::Storage => entry(t, 4),
+        Format::If1 => r.if1,
+        Format::If2 => r.if2,
+        Format::Storage => r.storage,
     }
 }
 
