@@ -1,11 +1,11 @@
 // The CRC of a frame's Class A bits, and what is claimed of it. For the frame crate, the converters and the link; a level's
 // library never calls it directly.
 ghost use mathlib.Core.Path.{_≡_};
-ghost use mathlib.Core.Bool.{Bool, true, false};
+ghost use mathlib.Core.Bool.{Bool, true, false, cond};
 ghost use mathlib.Core.List.{List, [], _∷_, _++_};
-ghost use Prim.Native.Nat.{_*_, _≤_};
+ghost use Prim.Native.Nat.{_*_, _/_, _^_, _<_, _≤_};
 ghost use lib.ListN.{length, take, replicate};
-ghost use Rattle.bits.specs.Bits.{bits, digits, num};
+ghost use Rattle.bits.specs.Bits.{odd, bits, digits, num};
 ghost use Rattle.parity.specs.Crc.{divide, crc};
 ghost use Rattle.parity.specs.Places.{countTrue};
 ghost use Rattle.parity.specs.Claims.{IsRemainder, Detects, DetectsInFrames};
@@ -28,12 +28,29 @@ fn take_bit(r: u8, b: bool) -> u8
     step(r ^ ((b as u8) << 7))
 }
 
+// What bit `i` of `y` leaves once it is shifted out: `left` where it is 1.
+fn left_by(y: u8, i: usize, left: u8) -> u8
+    requires { ⌜ i < 8 ⌝ }
+    ensures { λ s. ⌜ s ≡ cond (odd (y / 2 ^ i)) left 0 ⌝ }
+{
+    let mask = std::num::wrapping_sub_u8(0, (y >> i) & 1);
+    mask & left
+}
+
+// Eight steps at once, the CRC of one octet: its bit i leaves the remainder of D^(8+i), and the division is linear.
+fn shift_octet(y: u8) -> u8
+    ensures { λ s. ⌜ s ≡ num 8 (crc (digits 8 y)) ⌝ }
+{
+    let high = left_by(y, 7, 0xC1) ^ left_by(y, 6, 0xD8) ^ left_by(y, 5, 0x6C) ^ left_by(y, 4, 0x36);
+    let low = left_by(y, 3, 0x1B) ^ left_by(y, 2, 0xB5) ^ left_by(y, 1, 0xE2) ^ left_by(y, 0, LOWER);
+    high ^ low
+}
+
 // From the CRC `r` of a message, the CRC of the message with the octet `x` behind it. The division is linear: `x` is added first.
 fn take_octet(r: u8, x: u8) -> u8
     ensures { λ s. ⌜ ((m : List Bool) → r ≡ num 8 (crc m) → s ≡ num 8 (crc (m ++ digits 8 x))) ⌝ }
 {
-    let half = step(step(step(step(r ^ x))));
-    step(step(step(step(half))))
+    shift_octet(r ^ x)
 }
 
 // The CRC of the first `k` octets of `core`.

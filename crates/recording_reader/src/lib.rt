@@ -82,7 +82,7 @@ fn handed_on(r: Reading, k: usize, at: usize) -> Counts
 }
 
 // Scans the frames behind the file header, up to the first that is refused, and adds up the octets that a conversion to `g` writes.
-fn scan(f: Format, g: Format, s: &[u8]) -> Counts
+fn scan_frames(f: Format, g: Format, s: &[u8]) -> Counts
     requires { ⌜ (length (fileHeader (formatOf f)) ≤ length (now s)) × (length (now s) ≤ limit) ⌝ }
     ensures { λ a. ⌜ ((r : ℕ) → countsOf a ≡ andThenAt (scanFrames (formatOf f) (now (s .entry))) (λ xs. done (length xs, length (converted (formatOf f) (formatOf g) r xs)))) ⌝ }
 {
@@ -99,6 +99,18 @@ fn scan(f: Format, g: Format, s: &[u8]) -> Counts
         k += 1;
     }
     Counts::Done(k, need)
+}
+
+// The same, with the format as a constant in each call: the compiler then makes a loop for each, without tests of the format.
+fn scan(f: Format, g: Format, s: &[u8]) -> Counts
+    requires { ⌜ (length (fileHeader (formatOf f)) ≤ length (now s)) × (length (now s) ≤ limit) ⌝ }
+    ensures { λ a. ⌜ ((r : ℕ) → countsOf a ≡ andThenAt (scanFrames (formatOf f) (now (s .entry))) (λ xs. done (length xs, length (converted (formatOf f) (formatOf g) r xs)))) ⌝ }
+{
+    match f {
+        Format::If1 => scan_frames(Format::If1, g, s),
+        Format::If2 => scan_frames(Format::If2, g, s),
+        Format::Storage => scan_frames(Format::Storage, g, s),
+    }
 }
 
 // Reads a whole recording: its frames, and the octets that a conversion to `g` writes.

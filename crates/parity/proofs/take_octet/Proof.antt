@@ -1,51 +1,19 @@
--- `parity::take_octet` meets its contract, by eight times what `step` ensures. Assumes nothing.
+-- `parity::take_octet` meets its contract: the octet is added to the register first. Assumes nothing.
 use borrow.Author.Needs.{needs}
-use mathlib.Core.Path.{_≡_, _∙_}
-use lib.Bits.{bitXor}
-use Rattle.parity.proofs.Octets.{steps, octet-taken}
+use mathlib.Core.Path.{_∙_}
+use Rattle.parity.proofs.Octets.{octet-added}
 use Rattle.parity.proofs.take_octet.Statement.{statement}
 use Rattle.parity.proofs.take_octet.Tie as tie
+use Rattle.parity.proofs.take_octet.Reads as reads
+use Rattle.parity.proofs.take_octet.Lts as lts
+use Rattle.parity.proofs.shift_octet.Reads as shift-octet-reads
 
-step-requires : tie.Need-step-requires
-step-requires c κs = search needs
-
-step-requires-2 : tie.Need-step-requires-2
-step-requires-2 c κs = search needs
-
-step-requires-3 : tie.Need-step-requires-3
-step-requires-3 c κs = search needs
-
-step-requires-4 : tie.Need-step-requires-4
-step-requires-4 c κs = search needs
-
-step-requires-5 : tie.Need-step-requires-5
-step-requires-5 c κs = search needs
-
-step-requires-6 : tie.Need-step-requires-6
-step-requires-6 c κs = search needs
-
-step-requires-7 : tie.Need-step-requires-7
-step-requires-7 c κs = search needs
-
-step-requires-8 : tie.Need-step-requires-8
-step-requires-8 c κs = search needs
+shift-octet-requires : tie.Need-shift-octet-requires
+shift-octet-requires c κs = search needs
 
 returns : tie.Need-returns
-returns c m e =
-    let a = c .before .before .before .before .before .before .before .before .args in
-    let z : c .step8 .result ≡ steps 8 (bitXor (a .r) (a .x)) = cc in
-    z ∙ octet-taken m (a .r) (a .x) (search needs) e
+returns c =
+    λ m e. c .shift-octet .ensures ∙ octet-added m (c .before .args .r) (c .before .args .x) (search needs) (search needs) e
 
 pub take-octet-spec : {M : Type 1} → statement M
-take-octet-spec =
-    tie.close
-    (tie.spec
-    step-requires
-    step-requires-2
-    step-requires-3
-    step-requires-4
-    step-requires-5
-    step-requires-6
-    step-requires-7
-    step-requires-8
-    returns)
+take-octet-spec = tie.close (tie.spec shift-octet-requires returns)
