@@ -1,15 +1,15 @@
 -- What the code does to octets. A shift with a mask is a step of the register, and since `run` is linear an octet may be added
 -- to the register first and eight steps be made on false. Assumes nothing.
 use mathlib.Core.Path.{_≡_, refl, sym, ap, ap₂, _∙_}
-use mathlib.Core.Bool.{Bool, true, false, xor, cond}
+use mathlib.Core.Bool.{Bool, true, false, xor}
 use mathlib.Core.List.{List, [], _∷_, _++_}
 use Prim.Native.Nat.{ℕ, zero, suc, _+_, _*_, _/_, _%_, _^_, _<_}
 use native.Mathlib.Nat.{mod-eq-of-lt}
 use native.Mathlib.Numerals.{add-one}
 use native.Mathlib.Omega.{arith}
 use lib.Dec.{lit≤, eqb}
-use borrow.Author.Tests.{eqb-true, eqb-false}
-use lib.Bits.{bitAnd, bitXor, xor-block, xor-lt, and-comm, and-mask}
+use borrow.Author.Tests.{eqb-true}
+use lib.Bits.{bitAnd, bitXor, xor-block, xor-lt}
 use lib.Pow.{high}
 use lib.ListN.{length, take, drop, getD, replicate}
 use lib.Seq.{take-add, take-at, take-suc}
@@ -124,45 +124,19 @@ octet-taken m r x l q =
 
 -- ---- eight steps at once
 
--- what `left_by` does
-pub left-is : (y i left m : ℕ) → m < 256 → left < 256 → (m + bitAnd (y / 2 ^ i) 1) % 256 ≡ 0 → bitAnd m left ≡ cond (odd (y / 2 ^ i)) left 0
-unfolding odd
-left-is y i left m hm hl q = go (eqb (y / 2 ^ i % 2) 1) refl
-  where
-    low : bitAnd (y / 2 ^ i) 1 ≡ y / 2 ^ i % 2
-    low = and-mask (y / 2 ^ i) 1
+-- what `shift_octet` does
+abbrev quotient : ℕ → ℕ
+quotient y = bitXor (bitXor (bitXor y (y / 2 ^ 2)) (y / 2 ^ 3)) (y / 2 ^ 7)
 
-    go : (b : Bool) → eqb (y / 2 ^ i % 2) 1 ≡ b → bitAnd m left ≡ cond (eqb (y / 2 ^ i % 2) 1) left 0
-    go true e =
-        let one = eqb-true (y / 2 ^ i % 2) 1 e in
-        let z : m ≡ 255 = omega (arith, low) in
-        ap (λ (k : ℕ). bitAnd k left) z ∙ and-comm 255 left ∙ and-mask left 8 ∙ mod-eq-of-lt hl ∙ sym (ap (λ c. cond c left 0) e)
-    go false e =
-        let not-one = eqb-false (y / 2 ^ i % 2) 1 e in
-        let z : m ≡ 0 = omega (arith, low) in
-        ap (λ (k : ℕ). bitAnd k left) z ∙ sym (ap (λ c. cond c left 0) e)
+abbrev multiple : ℕ → ℕ
+multiple q = bitXor (bitXor (bitXor q (q * 2 ^ 4 % 256)) (q * 2 ^ 5 % 256)) (q * 2 ^ 6 % 256)
 
--- the code's sum of what the eight bits leave
-abbrev leaves : ℕ → ℕ → ℕ → ℕ
-leaves y i left = cond (odd (y / 2 ^ i)) left 0
+shift-test : ℕ → Bool
+shift-test y = eqb (multiple (quotient y)) (num 8 (crc (digits 8 y)))
 
-abbrev pub allLeave : ℕ → ℕ
-allLeave y =
-    bitXor (bitXor (bitXor (bitXor (leaves y 7 0xC1) (leaves y 6 0xD8)) (leaves y 5 0x6C)) (leaves y 4 0x36))
-    (bitXor (bitXor (bitXor (leaves y 3 0x1B) (leaves y 2 0xB5)) (leaves y 1 0xE2)) (leaves y 0 0x71))
-
-pub leave-sum : (y a b c d e f g h : ℕ) → a ≡ leaves y 7 0xC1 → b ≡ leaves y 6 0xD8 → c ≡ leaves y 5 0x6C → d ≡ leaves y 4 0x36 → e ≡ leaves y 3 0x1B
-    → f ≡ leaves y 2 0xB5 → g ≡ leaves y 1 0xE2 → h ≡ leaves y 0 0x71
-    → bitXor (bitXor (bitXor (bitXor a b) c) d) (bitXor (bitXor (bitXor e f) g) h) ≡ allLeave y
-leave-sum y a b c d e f g h pa pb pc pd pe pf pg ph =
-    ap₂ bitXor (ap₂ bitXor (ap₂ bitXor (ap₂ bitXor pa pb) pc) pd) (ap₂ bitXor (ap₂ bitXor (ap₂ bitXor pe pf) pg) ph)
-
-leaves-test : ℕ → Bool
-leaves-test y = eqb (allLeave y) (num 8 (crc (digits 8 y)))
-
-pub all-leave : (y : ℕ) → y < 256 → allLeave y ≡ num 8 (crc (digits 8 y))
-unfolding leaves-test odd digits num crc divide addFront xor
-all-leave y h = eqb-true _ _ (every-below 256 leaves-test refl y h)
+pub shift-is : (y : ℕ) → y < 256 → multiple (quotient y) ≡ num 8 (crc (digits 8 y))
+unfolding shift-test odd digits num crc divide addFront xor
+shift-is y h = eqb-true _ _ (every-below 256 shift-test refl y h)
 
 -- so the octet may be added first
 pub octet-added : (m : List Bool) (r x : ℕ) → r < 256 → x < 256 → r ≡ num 8 (crc m) → num 8 (crc (digits 8 (bitXor r x))) ≡ num 8 (crc (m ++ digits 8 x))

@@ -1,11 +1,11 @@
 // The CRC of a frame's Class A bits, and what is claimed of it. For the frame crate, the converters and the link; a level's
 // library never calls it directly.
 ghost use mathlib.Core.Path.{_≡_};
-ghost use mathlib.Core.Bool.{Bool, true, false, cond};
+ghost use mathlib.Core.Bool.{Bool, true, false};
 ghost use mathlib.Core.List.{List, [], _∷_, _++_};
-ghost use Prim.Native.Nat.{_*_, _/_, _^_, _<_, _≤_};
+ghost use Prim.Native.Nat.{_*_, _≤_};
 ghost use lib.ListN.{length, take, replicate};
-ghost use Rattle.bits.specs.Bits.{odd, bits, digits, num};
+ghost use Rattle.bits.specs.Bits.{bits, digits, num};
 ghost use Rattle.parity.specs.Crc.{divide, crc};
 ghost use Rattle.parity.specs.Places.{countTrue};
 ghost use Rattle.parity.specs.Claims.{IsRemainder, Detects, DetectsInFrames};
@@ -28,22 +28,13 @@ fn take_bit(r: u8, b: bool) -> u8
     step(r ^ ((b as u8) << 7))
 }
 
-// What bit `i` of `y` leaves once it is shifted out: `left` where it is 1.
-fn left_by(y: u8, i: usize, left: u8) -> u8
-    requires { ⌜ i < 8 ⌝ }
-    ensures { λ s. ⌜ s ≡ cond (odd (y / 2 ^ i)) left 0 ⌝ }
-{
-    let mask = std::num::wrapping_sub_u8(0, (y >> i) & 1);
-    mask & left
-}
-
-// Eight steps at once, the CRC of one octet: its bit i leaves the remainder of D^(8+i), and the division is linear.
+// The CRC of one octet, eight steps at once. `q` is the quotient of y · D^8: y · (D^16 / G), without its low terms. Its multiple of the
+// generator, cut to eight coefficients, is the remainder.
 fn shift_octet(y: u8) -> u8
     ensures { λ s. ⌜ s ≡ num 8 (crc (digits 8 y)) ⌝ }
 {
-    let high = left_by(y, 7, 0xC1) ^ left_by(y, 6, 0xD8) ^ left_by(y, 5, 0x6C) ^ left_by(y, 4, 0x36);
-    let low = left_by(y, 3, 0x1B) ^ left_by(y, 2, 0xB5) ^ left_by(y, 1, 0xE2) ^ left_by(y, 0, LOWER);
-    high ^ low
+    let q = y ^ (y >> 2) ^ (y >> 3) ^ (y >> 7);
+    q ^ (q << 4) ^ (q << 5) ^ (q << 6)
 }
 
 // From the CRC `r` of a message, the CRC of the message with the octet `x` behind it. The division is linear: `x` is added first.
