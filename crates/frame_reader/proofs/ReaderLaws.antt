@@ -1,26 +1,43 @@
 -- What the reader's tests compute is what the definition asks, and each refusal follows from the tests made before it. Assumes nothing.
-use mathlib.Core.Path.{_≡_, sym, ap, ap₂, _∙_}
-use mathlib.Core.Bool.{Bool, true, false, not, _||_}
+use mathlib.Core.Path.{_≡_, refl, sym, ap, ap₂, _∙_}
+use mathlib.Core.Bool.{Bool, true, false, not, _&&_, _||_, cond, Bool·beq}
 use mathlib.Core.List.{List}
-use Prim.Native.Nat.{ℕ, _+_, _-_, _*_, _<_, _≤_}
+use Prim.Native.Nat.{ℕ, _+_, _-_, _*_, _/_, _%_, _^_, _<_, _≤_}
 use native.Mathlib.Omega.{arith}
 use lib.Dec.{eqb, leb}
-use lib.ListN.{length, take, drop, length-drop}
+use lib.Bits.{bitAnd, and-mask}
+use lib.ListN.{length, take, drop, getD, length-drop}
 use lib.Seq.{drop-drop, take-take, take-all}
 use borrow.Author.Tests.{le-leb, lt-leb, eq-eqb, ne-eqb}
-use Rattle.bits.specs.Bits.{num, bits}
-use Rattle.bits.proofs.BitLaws.{num-within, bits-drop}
+use Rattle.bits.specs.Bits.{num, bits, clear}
+use Rattle.bits.proofs.BitLaws.{num-within, bits-drop, octet-field}
+use Rattle.bits.proofs.Tests.{every-below}
 use Rattle.parity.specs.Crc.{crc}
 use Rattle.definitions.specs.Outcome.{refused, ok}
-use Rattle.definitions.specs.Frames.{Format, known, coreBits, classA, octets, carriesModes, headerBits, spareBefore, spareAfter, typeIn, coreIn, frameIn, fillClear, spareClear, fieldsGood, crcGood}
+use Rattle.definitions.specs.Frames.{Format, known, coreBits, classA, octets, carriesModes, headerBits, spareBefore, spareAfter, typeIn, qualityIn, coreIn, frameIn, fillClear, spareClear, fieldsGood, crcGood}
 use Rattle.definitions.specs.Reading.{readWith}
 use Rattle.frame.specs.Answers.{frameWith}
 use Rattle.frame.specs.declared.FrameHeader.{FrameHeader}
 use Rattle.definitions.proofs.Tables.{class-a-within}
 use Rattle.frame.proofs.TableLaws.{type-below, no-octets-reserved, modes-carried, sid-core}
-use Rattle.definitions.proofs.Frames.{type-frame}
+use Rattle.definitions.proofs.Frames.{type-frame, frame-path}
+use Rattle.frame_reader.specs.Buffer.{Plain}
 
 -- ---- the tests
+
+storage-test : ℕ → Bool
+storage-test x = Bool·beq (eqb (bitAnd x 0x83) 0) (eqb (x / 2 ^ 7 % 2 ^ 1) 0 && eqb (x / 2 ^ 0 % 2 ^ 2) 0)
+
+-- the mask of the stored frame's spare bits, by one test that antt computes over the octets
+storage-mask : (x : ℕ) → x < 256 → eqb (bitAnd x 0x83) 0 ≡ (eqb (x / 2 ^ 7 % 2 ^ 1) 0 && eqb (x / 2 ^ 0 % 2 ^ 2) 0)
+unfolding storage-test
+storage-mask x h = go (eqb (bitAnd x 0x83) 0) (eqb (x / 2 ^ 7 % 2 ^ 1) 0 && eqb (x / 2 ^ 0 % 2 ^ 2) 0) (every-below 256 storage-test refl x h)
+  where
+    go : (a b : Bool) → Bool·beq a b ≡ true → a ≡ b
+    go true true e = refl
+    go false false e = refl
+    go true false e = absurd (let z : _≡_ {A = ℕ} 0 1 = cc in omega arith)
+    go false true e = absurd (let z : _≡_ {A = ℕ} 0 1 = cc in omega arith)
 
 -- `fill_clear`: n octets, of which the header and the core take the bits before end
 pub fill-is : (f : Format) (t : ℕ) (s : List ℕ) (n end r : ℕ) → n ≡ octets f t → end ≡ headerBits f t + coreBits t → end ≤ 8 * n
@@ -58,26 +75,52 @@ no-crc f s t e c =
     ap (λ b. not b || eqb (num 8 (drop 16 bs)) (num 8 (crc (take (classA t) (coreIn f t bs))))) (sym c)
     ∙ ap (λ u. not (carriesModes f u) || eqb (num 8 (drop 16 bs)) (num 8 (crc (take (classA u) (coreIn f u bs))))) e
 
--- `spare_clear`: b spare bits in front, a behind the quality
-module _ (f : Format) (bs : List Bool) (b v : ℕ) (eb : b ≡ spareBefore f) (ev : v ≡ num b bs) where
-  front : num (spareBefore f) bs ≡ v
-  front = ap (λ k. num k bs) (sym eb) ∙ sym ev
+-- `spare_clear`: the first octet's spare bits, then the filling
+pub spare-first : (f : Format) (bs : List Bool) (r : Bool) → r ≡ (clear (spareBefore f) bs && clear (spareAfter f) (drop (spareBefore f + 5) bs)) → r ≡ false
+    → false ≡ spareClear f bs
+unfolding spareClear
+spare-first f bs r e z = go (clear (spareBefore f) bs) (clear (spareAfter f) (drop (spareBefore f + 5) bs)) (fillClear f (typeIn f bs) bs) (sym e ∙ z)
+  where
+    go : (a b c : Bool) → (a && b) ≡ false → false ≡ (a && (b && c))
+    go true true c h = absurd (let z : _≡_ {A = ℕ} 0 1 = cc in omega arith)
+    go true false c h = refl
+    go false b c h = refl
 
-  pub spare-front : (v ≡ 0 → ⊥) → false ≡ spareClear f bs
-  unfolding spareClear
-  spare-front n = rw (front, ne-eqb v 0 n)
+pub spare-fill : (f : Format) (bs : List Bool) (r : Bool) → r ≡ (clear (spareBefore f) bs && clear (spareAfter f) (drop (spareBefore f + 5) bs)) → r ≡ true
+    → (t : ℕ) (v : Bool) → t ≡ typeIn f bs → v ≡ fillClear f t bs → v ≡ spareClear f bs
+unfolding spareClear
+spare-fill f bs r e z t v et ev =
+    ev ∙ ap (λ u. fillClear f u bs) et ∙ go (clear (spareBefore f) bs) (clear (spareAfter f) (drop (spareBefore f + 5) bs)) (fillClear f (typeIn f bs) bs) (sym e ∙ z)
+  where
+    go : (a b c : Bool) → (a && b) ≡ true → c ≡ (a && (b && c))
+    go true true c h = refl
+    go true false c h = absurd (let z : _≡_ {A = ℕ} 0 1 = cc in omega arith)
+    go false b c h = absurd (let z : _≡_ {A = ℕ} 0 1 = cc in omega arith)
 
-  module _ (z : v ≡ 0) (a w : ℕ) (ea : a ≡ spareAfter f) (ew : w ≡ num a (drop (b + 5) bs)) where
-    behind : num (spareAfter f) (drop (spareBefore f + 5) bs) ≡ w
-    behind = ap₂ (λ k m. num k (drop (m + 5) bs)) (sym ea) (sym eb) ∙ sym ew
+-- ---- the first octet's fields
 
-    pub spare-behind : (w ≡ 0 → ⊥) → false ≡ spareClear f bs
-    unfolding spareClear
-    spare-behind n = rw (front, eq-eqb v 0 z, behind, ne-eqb w 0 n)
+pub first-if2 : (s : List ℕ) → true ≡ (clear 0 (bits s) && clear 0 (drop 5 (bits s)))
+unfolding num
+first-if2 s = refl
 
-    pub spare-fill : w ≡ 0 → (t : ℕ) (r : Bool) → t ≡ typeIn f bs → r ≡ fillClear f t bs → r ≡ spareClear f bs
-    unfolding spareClear
-    spare-fill y t r et er = rw (front, eq-eqb v 0 z, behind, eq-eqb w 0 y) (er ∙ ap (λ u. fillClear f u bs) et)
+module _ (s : List ℕ) (o : getD s 0 0 < 256) (h : 0 < length s) where
+  field : (a k b : ℕ) → a + (k + b) ≡ 8 → num k (drop a (bits s)) ≡ getD s 0 0 / 2 ^ b % 2 ^ k
+  field a k b e = ap (λ i. num k (drop i (bits s))) (let z : a ≡ 8 * 0 + a = omega arith in z) ∙ octet-field 0 a k b s h e
+
+  pub type-if : getD s 0 0 / 2 ^ 4 ≡ num 4 (drop 0 (bits s))
+  type-if = sym (field 0 4 4 refl ∙ (let z : getD s 0 0 / 2 ^ 4 % 2 ^ 4 ≡ getD s 0 0 / 2 ^ 4 = omega arith in z))
+
+  pub masked-field : (a k b : ℕ) → a + (k + b) ≡ 8 → bitAnd (getD s 0 0 / 2 ^ b) (2 ^ k - 1) ≡ num k (drop a (bits s))
+  masked-field a k b e = and-mask (getD s 0 0 / 2 ^ b) k ∙ sym (field a k b e)
+
+  pub first-if1 : eqb (bitAnd (getD s 0 0) 0x07) 0 ≡ (clear 0 (bits s) && clear 3 (drop 5 (bits s)))
+  unfolding num
+  first-if1 = ap (λ n. eqb n 0) (and-mask (getD s 0 0) 3 ∙ sym (field 5 3 0 refl ∙ (let z : getD s 0 0 / 2 ^ 0 % 2 ^ 3 ≡ getD s 0 0 % 2 ^ 3 = omega arith in z)))
+
+  pub first-storage : eqb (bitAnd (getD s 0 0) 0x83) 0 ≡ (clear 1 (bits s) && clear 2 (drop 6 (bits s)))
+  first-storage =
+      storage-mask (getD s 0 0) o
+      ∙ ap₂ (λ m n. eqb m 0 && eqb n 0) (sym (field 0 1 7 refl)) (sym (field 6 2 0 refl))
 
 -- `header_in`: the type that it gives is the type that was read
 pub header-same : (f : Format) (bs : List Bool) (h : FrameHeader) (t : ℕ) → t ≡ typeIn f bs → frameWith h (coreIn f t bs) ≡ frameIn f bs
@@ -142,3 +185,30 @@ module _ (single : Bool) (f : Format) (s : List ℕ) where
     unfolding readWith
     reads e₅ e₆ e₇ =
         rw (le-leb 1 (length s) (w .some), ← w .type-is, w .type-known, ← w .size-is, le-leb n (length s) (w .enough), w .ending, e₅, e₆, e₇)
+
+-- ---- a plain frame
+
+module _ (f : Format) (s : List ℕ) (n : ℕ) (p : Plain f s n) where
+  plain-frame : (h : FrameHeader) → h .«frame_type» ≡ typeIn f (bits s) → h .quality ≡ qualityIn f (bits s) → h .indication ≡ 0 → h .request ≡ 0
+      → frameWith h (coreIn f (h .«frame_type») (bits s)) ≡ frameIn f (bits s)
+  unfolding frameIn
+  plain-frame h t q i r =
+      let c = p .no-modes in
+      frame-path _ _ t q (i ∙ sym (ap (λ b. cond b (num 4 (drop 8 (bits s))) 0) c)) (r ∙ sym (ap (λ b. cond b (num 4 (drop 12 (bits s))) 0) c))
+      (ap (λ u. coreIn f u (bits s)) t)
+
+  plain-fields : fieldsGood f (frameIn f (bits s)) ≡ true
+  unfolding fieldsGood frameIn
+  plain-fields = rw (p .no-modes, ne-eqb (typeIn f (bits s)) 9 (p .no-sid))
+
+  plain-crc : crcGood f (bits s) ≡ true
+  plain-crc = sym (no-crc f s (typeIn f (bits s)) refl (p .no-modes))
+
+  -- it is what the reader shows
+  pub plain-reads : (h : FrameHeader) → h .«frame_type» ≡ typeIn f (bits s) → h .quality ≡ qualityIn f (bits s) → h .indication ≡ 0 → h .request ≡ 0
+      → ok (frameWith h (coreIn f (h .«frame_type») (bits s)), n) ≡ readWith false f s
+  plain-reads h t q i r =
+      ap (λ x. ok (x, n)) (plain-frame h t q i r)
+      ∙ reads false f s (typeIn f (bits s)) n
+      (record { some = p .some; type-is = refl; type-known = p .type-known; size-is = p .size; enough = p .enough; ending = refl })
+      (p .spare) plain-fields plain-crc

@@ -1,9 +1,13 @@
--- What a call that reads a frame promises of its answer and of the core's buffer.
+-- What a call that reads a frame promises of its answer and of the core's buffer, and what is found of a frame that is quickly read.
 use mathlib.Core.Path.{_≡_}
+use mathlib.Core.Bool.{true, false}
+use mathlib.Core.Logic.{_≢_}
 use mathlib.Core.List.{List}
-use Prim.Native.Nat.{ℕ}
+use Prim.Native.Nat.{ℕ, _≤_}
+use lib.ListN.{length}
+use Rattle.bits.specs.Bits.{bits}
 use Rattle.definitions.specs.Outcome.{Outcome}
-use Rattle.definitions.specs.Frames.{Frame}
+use Rattle.definitions.specs.Frames.{Format, Frame, known, octets, carriesModes, typeIn, spareClear}
 use Rattle.definitions.specs.Reading.{coreAfter, bufferCore}
 use Rattle.frame.specs.Answers.{readingOf}
 use Rattle.frame.specs.declared.Reading.{Reading}
@@ -12,3 +16,13 @@ use Rattle.frame.specs.declared.Reading.{Reading}
 pub record IntoBuffer (o : Outcome (Frame × ℕ)) (d₀ d : List ℕ) (r : Reading) : Type 0 where
   pub answer : readingOf (bufferCore d) r ≡ o
   pub buffer : d ≡ coreAfter o d₀
+
+-- the n octets in front are a valid frame that carries no modes and is no SID frame
+pub record Plain (f : Format) (s : List ℕ) (n : ℕ) : Type 0 where
+  pub some : 1 ≤ length s
+  pub type-known : known (typeIn f (bits s)) ≡ true
+  pub no-sid : typeIn f (bits s) ≢ 9
+  pub no-modes : carriesModes f (typeIn f (bits s)) ≡ false
+  pub size : n ≡ octets f (typeIn f (bits s))
+  pub enough : n ≤ length s
+  pub spare : spareClear f (bits s) ≡ true

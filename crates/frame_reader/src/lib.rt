@@ -12,17 +12,15 @@ use frame::table::class_a;
 use frame::table::core_bits;
 use frame::table::header_bits;
 use frame::table::octets_of;
-use frame::table::spare_after;
-use frame::table::spare_before;
 ghost use mathlib.Core.Path.{_≡_};
-ghost use mathlib.Core.Bool.{true, not, _||_, cond};
+ghost use mathlib.Core.Bool.{true, not, _&&_, _||_, cond};
 ghost use Prim.Native.Nat.{_+_, _<_, _≤_};
 ghost use lib.Dec.{leb};
 ghost use lib.ListN.{length, drop};
-ghost use Rattle.bits.specs.Bits.{bits, num};
-ghost use Rattle.definitions.specs.Frames.{known, octets, carriesModes, typeIn, qualityIn, coreIn, frameIn, fillClear, spareClear, fieldsGood, crcGood};
+ghost use Rattle.bits.specs.Bits.{bits, num, clear};
+ghost use Rattle.definitions.specs.Frames.{known, octets, carriesModes, spareBefore, spareAfter, typeIn, qualityIn, coreIn, frameIn, fillClear, spareClear, fieldsGood, crcGood};
 ghost use Rattle.definitions.specs.Reading.{readWith, readFrame, intoBuffer, readCall};
-ghost use Rattle.frame_reader.specs.Buffer.{IntoBuffer};
+ghost use Rattle.frame_reader.specs.Buffer.{IntoBuffer, Plain};
 ghost use Rattle.frame.specs.Answers.{formatOf, frameWith, readingOf};
 
 // Where IF1 has the indication, the request and the CRC, in bits, and the core, in octets.
@@ -44,7 +42,11 @@ pub fn type_in(f: Format, s: &[u8]) -> u8
     requires { ⌜ 0 < length (now s) ⌝ }
     ensures { λ r. ⌜ r ≡ typeIn (formatOf f) (bits (now (s .entry))) ⌝ }
 {
-    bits::field_at(s, spare_before(f), 4)
+    match f {
+        Format::If1 => s[0] >> 4,
+        Format::If2 => s[0] >> 4,
+        Format::Storage => (s[0] >> 3) & 15,
+    }
 }
 
 // The FQI.
@@ -52,7 +54,11 @@ pub fn quality_in(f: Format, s: &[u8]) -> u8
     requires { ⌜ 0 < length (now s) ⌝ }
     ensures { λ r. ⌜ r ≡ qualityIn (formatOf f) (bits (now (s .entry))) ⌝ }
 {
-    bits::field_at(s, spare_before(f) + 4, 1)
+    match f {
+        Format::If1 => (s[0] >> 3) & 1,
+        Format::If2 => (s[0] >> 3) & 1,
+        Format::Storage => (s[0] >> 2) & 1,
+    }
 }
 
 // The mode that stands at bit `from`, 0 where the frame carries none.
@@ -93,29 +99,36 @@ fn ends(single: bool, len: usize, n: usize) -> bool
     true
 }
 
-// The filling bits are 0.
-fn fill_clear(f: Format, s: &[u8], t: usize) -> bool
-    requires { ⌜ (known t ≡ true) × (octets (formatOf f) t ≤ length (now s)) ⌝ }
+// No spare bit of the first octet is 1.
+fn first_clear(f: Format, s: &[u8]) -> bool
+    requires { ⌜ 0 < length (now s) ⌝ }
+    ensures { λ r. ⌜ r ≡ (clear (spareBefore (formatOf f)) (bits (now (s .entry))) && clear (spareAfter (formatOf f)) (drop (spareBefore (formatOf f) + 5) (bits (now (s .entry))))) ⌝ }
+{
+    match f {
+        Format::If1 => s[0] & 0x07 == 0,
+        Format::If2 => true,
+        Format::Storage => s[0] & 0x83 == 0,
+    }
+}
+
+// The filling bits of a frame of `n` octets are 0.
+fn fill_clear(f: Format, s: &[u8], t: usize, n: usize) -> bool
+    requires { ⌜ (known t ≡ true) × (n ≡ octets (formatOf f) t) × (n ≤ length (now s)) ⌝ }
     ensures { λ r. ⌜ r ≡ fillClear (formatOf f) t (bits (now (s .entry))) ⌝ }
 {
-    let n = octets_of(f, t);
     let end = header_bits(f, t) + core_bits(t);
     bits::low_bits(s, n, 8 * n - end) == 0
 }
 
 // Refusal 5's test.
-fn spare_clear(f: Format, s: &[u8], t: usize) -> bool
-    requires { ⌜ (t ≡ typeIn (formatOf f) (bits (now s))) × (known t ≡ true) × (octets (formatOf f) t ≤ length (now s)) ⌝ }
+fn spare_clear(f: Format, s: &[u8], t: usize, n: usize) -> bool
+    requires { ⌜ (t ≡ typeIn (formatOf f) (bits (now s))) × (known t ≡ true) × (n ≡ octets (formatOf f) t) × (n ≤ length (now s)) ⌝ }
     ensures { λ r. ⌜ r ≡ spareClear (formatOf f) (bits (now (s .entry))) ⌝ }
 {
-    let b = spare_before(f);
-    if bits::field_at(s, 0, b) != 0 {
-        return false;
+    if first_clear(f, s) {
+        return fill_clear(f, s, t, n);
     }
-    if bits::field_at(s, b + 5, spare_after(f)) != 0 {
-        return false;
-    }
-    fill_clear(f, s, t)
+    false
 }
 
 // The mode of a SID frame, d(36..39).
@@ -171,7 +184,7 @@ fn judge(single: bool, f: Format, s: &[u8]) -> Reading
     if !ends(single, s.len(), n) {
         return Reading::Refused(Refusal::OctetsAfter);
     }
-    if !spare_clear(f, s, k) {
+    if !spare_clear(f, s, k, n) {
         return Reading::Refused(Refusal::SpareBit);
     }
     let h = header_in(f, s, t);
@@ -184,10 +197,46 @@ fn judge(single: bool, f: Format, s: &[u8]) -> Reading
     Reading::Frame(h, n)
 }
 
-// The frame at the start of `s`, where more may follow; its count is the octets that it takes.
+// The octets of a frame that only its length, its spare and its filling bits could refuse: it carries no modes and is no SID frame. 0 where
+// it is another, or refused.
+fn plain_octets(f: Format, s: &[u8]) -> usize
+    ensures { λ n. ⌜ (0 < n → Plain (formatOf f) (now (s .entry)) n) ⌝ }
+{
+    if s.len() == 0 {
+        return 0;
+    }
+    let k = type_in(f, s) as usize;
+    if k == SID {
+        return 0;
+    }
+    if carries_modes(f, k) {
+        return 0;
+    }
+    let n = octets_of(f, k);
+    if n == 0 {
+        return 0;
+    }
+    if s.len() < n {
+        return 0;
+    }
+    if spare_clear(f, s, k, n) { n } else { 0 }
+}
+
+// The frame at the start of `s`, where more may follow; its count is the octets that it takes. Plain frames come first: they are the most,
+// and this way is short enough to become part of the loop that calls it.
 pub fn read_front(f: Format, s: &[u8]) -> Reading
     ensures { λ r. ⌜ readingOf (λ t. coreIn (formatOf f) t (bits (now (s .entry)))) r ≡ readFrame (formatOf f) (now (s .entry)) ⌝ }
 {
+    let n = plain_octets(f, s);
+    if 0 < n {
+        let h = FrameHeader {
+            frame_type: type_in(f, s),
+            quality: quality_in(f, s),
+            indication: 0,
+            request: 0,
+        };
+        return Reading::Frame(h, n);
+    }
     judge(false, f, s)
 }
 

@@ -92,7 +92,7 @@ returns-4 c =
 spare-clear-requires : tie.Need-spare-clear-requires
 spare-clear-requires c κs =
     let w = whole-there c in
-    (w .type-is, w .type-known, rw (w .size-is) at (w .enough))
+    (w .type-is, w .type-known, w .size-is, w .enough)
 
 returns-5 : tie.Need-returns-5
 returns-5 c =

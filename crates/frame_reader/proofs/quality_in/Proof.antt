@@ -1,23 +1,58 @@
--- `frame_reader::quality_in` meets its contract: the quality stands behind the type. Assumes nothing.
+-- `frame_reader::quality_in` meets its contract: the quality is a bit of the first octet. Assumes nothing.
 use borrow.Author.Needs.{needs}
-use mathlib.Core.Path.{ap, _∙_}
-use Prim.Native.Nat.{_+_}
-use lib.ListN.{drop}
-use Rattle.bits.specs.Bits.{num, bits}
+use mathlib.Core.Path.{refl, sym, ap, _∙_}
+use Rattle.bits.specs.Bits.{bits}
+use Rattle.definitions.specs.Frames.{qualityIn}
+use Rattle.frame.specs.Answers.{formatOf}
+use Rattle.frame_reader.proofs.ReaderLaws.{masked-field}
 use Rattle.frame_reader.proofs.quality_in.Statement.{statement}
 use Rattle.frame_reader.proofs.quality_in.Tie as tie
+use Rattle.frame_reader.proofs.quality_in.Reads as reads
+use Rattle.frame_reader.proofs.quality_in.Lts as lts
 
-spare-before-requires : tie.Need-spare-before-requires
-spare-before-requires c κs = search needs
+enum-told : tie.Need-enum-told
+enum-told c = search needs
 
-add-field-at : tie.Need-add-field-at
-add-field-at c = search needs
+shared-slice-read-result : tie.Need-shared-slice-read-result
+shared-slice-read-result c = search needs
 
-field-at-requires : tie.Need-field-at-requires
-field-at-requires c κs = search needs
+enum-told-2 : tie.Need-enum-told-2
+enum-told-2 c = search needs
+
+shared-slice-read-result-2 : tie.Need-shared-slice-read-result-2
+shared-slice-read-result-2 c = search needs
+
+enum-told-3 : tie.Need-enum-told-3
+enum-told-3 c = search needs
+
+shared-slice-read-result-3 : tie.Need-shared-slice-read-result-3
+shared-slice-read-result-3 c = search needs
 
 returns : tie.Need-returns
-returns c = c .field-at .ensures ∙ ap (λ k. num 1 (drop (k + 4) (bits (c .before .before .before .args .s .now)))) (c .before .spare-before .ensures .0)
+returns c =
+    let a = c .before .before .before .args in
+    masked-field (a .s .now) (c .shared-slice-known .given 0 .fits) (c .before .before .before .pre) 4 1 3 refl ∙ sym (ap (λ f. qualityIn (formatOf f) (bits (a .s .now))) (c .before .enum-told .given .1))
+
+returns-2 : tie.Need-returns-2
+returns-2 c =
+    let a = c .before .before .before .args in
+    masked-field (a .s .now) (c .shared-slice-known2 .given 0 .fits) (c .before .before .before .pre) 4 1 3 refl ∙ sym (ap (λ f. qualityIn (formatOf f) (bits (a .s .now))) (c .before .enum-told2 .given .1))
+
+returns-3 : tie.Need-returns-3
+returns-3 c =
+    let a = c .before .before .before .args in
+    masked-field (a .s .now) (c .shared-slice-known3 .given 0 .fits) (c .before .before .before .pre) 5 1 2 refl ∙ sym (ap (λ f. qualityIn (formatOf f) (bits (a .s .now))) (c .before .enum-told3 .given .1))
 
 pub quality-in-spec : {M : Type 1} → statement M
-quality-in-spec = tie.close (tie.spec spare-before-requires add-field-at field-at-requires returns)
+quality-in-spec =
+    tie.close
+    (tie.spec
+    enum-told
+    shared-slice-read-result
+    enum-told-2
+    shared-slice-read-result-2
+    enum-told-3
+    shared-slice-read-result-3
+    returns
+    returns-2
+    returns-3)
