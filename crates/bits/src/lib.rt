@@ -70,7 +70,7 @@ fn copy_part(src: &[u8], from: usize, k: usize, dst: &mut [u8], at: usize)
 }
 
 // Copies `m` whole octets from octet `i` of `src` to octet `j` of `dst`.
-fn copy_whole(src: &[u8], i: usize, m: usize, dst: &mut [u8], j: usize)
+pub fn copy_whole(src: &[u8], i: usize, m: usize, dst: &mut [u8], j: usize)
     requires { ⌜ (i + m ≤ length (now src)) × (j + m ≤ length (now dst)) ⌝ }
     ensures { λ _. ⌜ bits (now (dst .exit)) ≡ copied (bits (now (dst .entry))) (8 * j) (drop (8 * i) (bits (now (src .entry)))) (8 * m) ⌝ }
 {
@@ -82,7 +82,7 @@ fn copy_whole(src: &[u8], i: usize, m: usize, dst: &mut [u8], j: usize)
 }
 
 // Copies `m` octets of bits from bit `a` of octet `i` of `src`, where `a` is not 0, to octet `j` of `dst`.
-fn copy_shifted(src: &[u8], i: usize, a: usize, m: usize, dst: &mut [u8], j: usize)
+pub fn copy_shifted(src: &[u8], i: usize, a: usize, m: usize, dst: &mut [u8], j: usize)
     requires { ⌜ (0 < a) × (a < 8) × (i + m < length (now src)) × (j + m ≤ length (now dst)) ⌝ }
     ensures { λ _. ⌜ bits (now (dst .exit)) ≡ copied (bits (now (dst .entry))) (8 * j) (drop (8 * i + a) (bits (now (src .entry)))) (8 * m) ⌝ }
 {

@@ -59,7 +59,7 @@ length-header if2 x = refl
 length-header storage x = refl
 
 -- the bits of a frame, with others behind them
-abbrev laid : Format → Frame → List Bool → List Bool
+abbrev pub laid : Format → Frame → List Bool → List Bool
 laid f x z = (header f x ++ x .core) ++ z
 
 type-laid : (f : Format) (x : Frame) (z : List Bool) → x .type < 16 → typeIn f (laid f x z) ≡ x .type
@@ -74,7 +74,7 @@ quality-laid if1 x z h = num-front 1 (x .quality) _ h
 quality-laid if2 x z h = num-front 1 (x .quality) _ h
 quality-laid storage x z h = num-front 1 (x .quality) _ h
 
-after-header : (f : Format) (x : Frame) (z : List Bool) → drop (headerBits f (x .type)) (laid f x z) ≡ x .core ++ z
+pub after-header : (f : Format) (x : Frame) (z : List Bool) → drop (headerBits f (x .type)) (laid f x z) ≡ x .core ++ z
 after-header f x z =
     ap (drop (headerBits f (x .type))) (append-assoc (header f x) (x .core) z) ∙ drop-at (header f x) (x .core ++ z) _ (length-header f x)
 
@@ -180,7 +180,7 @@ size-layout f x k l =
 pub length-layout : (f : Format) (x : Frame) → Valid f x → length (layout f x) ≡ octets f (x .type)
 length-layout f x v = size-layout f x (v .type-known) (v .core-length)
 
-bits-layout : (f : Format) (x : Frame) (rest : List ℕ) → Valid f x
+pub bits-layout : (f : Format) (x : Frame) (rest : List ℕ) → Valid f x
     → bits (layout f x ++ rest) ≡ laid f x (replicate (fillBits f (x .type)) false ++ bits rest)
 unfolding layout
 bits-layout f x rest v =

@@ -99,7 +99,7 @@ unfolding digits
 header-joined t q i r l = refl
 
 -- the header's three octets
-long-header : (x : Frame) (o p c : ℕ) → carriesModes if1 (x .type) ≡ true → digits 8 o ≡ firstBits if1 (x .type) (x .quality)
+pub long-header : (x : Frame) (o p c : ℕ) → carriesModes if1 (x .type) ≡ true → digits 8 o ≡ firstBits if1 (x .type) (x .quality)
     → digits 8 p ≡ digits 4 (x .indication) ++ digits 4 (x .request) → digits 8 c ≡ crc (take (classA (x .type)) (x .core))
     → header if1 x ≡ bits (o ∷ p ∷ c ∷ [])
 unfolding header bits
@@ -115,7 +115,7 @@ set-three (x ∷ []) r o p c h = absurd (omega arith)
 set-three (x ∷ y ∷ []) r o p c h = absurd (omega arith)
 set-three (x ∷ y ∷ z ∷ d) r o p c h = refl
 
-octets-three : (o p c : ℕ) → o < 256 → p < 256 → c < 256 → Octets (o ∷ p ∷ c ∷ [])
+pub octets-three : (o p c : ℕ) → o < 256 → p < 256 → c < 256 → Octets (o ∷ p ∷ c ∷ [])
 octets-three o p c ho hp hc zero = ho
 octets-three o p c ho hp hc (suc zero) = hp
 octets-three o p c ho hp hc (suc (suc zero)) = hc

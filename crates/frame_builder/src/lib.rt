@@ -32,8 +32,8 @@ const SID: u64 = 9;
 
 const SID_MODE_AT: usize = 36;
 
-// The octet of type and quality, with spare bits 0.
-fn first_octet(f: Format, t: u8, q: u8) -> u8
+// The octet of type and quality, with spare bits 0. For the crate that carries frames over.
+pub fn first_octet(f: Format, t: u8, q: u8) -> u8
     requires { ⌜ (t < 16) × (q < 2) ⌝ }
     ensures { λ r. ⌜ digits 8 r ≡ digits (spareBefore (formatOf f)) 0 ++ (digits 4 t ++ (digits 1 q ++ digits (3 - spareBefore (formatOf f)) 0)) ⌝ }
 {

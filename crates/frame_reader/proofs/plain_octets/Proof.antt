@@ -63,17 +63,17 @@ spare-clear-requires c κs =
 returns-6 : tie.Need-returns-6
 returns-6 c =
     λ h.
-        let a = c .before .before .before .before .before .before .before .before .before .before .before .args in
-        let t = c .before .before .before .before .before .before .before .before .type-in in
-        record {
-          some = omega arith;
-          type-known = ap known (sym (t .ensures)) ∙ known-there (c .before .before);
-          no-sid = λ e. c .before .before .before .before .before .before .before .if2 .left (t .ensures ∙ e);
-          no-modes = ap (carriesModes (formatOf (a .f))) (sym (t .ensures)) ∙ sym (c .before .before .before .before .before .before .carries-modes .ensures) ∙ c .before .before .before .before .before .if3 .left;
-          size = c .before .before .before .before .octets-of .ensures .0 ∙ ap (octets (formatOf (a .f))) (t .ensures);
-          enough = c .before .before .if5 .left;
-          spare = sym (c .before .spare-clear .ensures) ∙ c .if6 .taken;
-        }
+    let a = c .before .before .before .before .before .before .before .before .before .before .before .args in
+    let t = c .before .before .before .before .before .before .before .before .type-in in
+    record {
+      some = omega arith;
+      type-known = ap known (sym (t .ensures)) ∙ known-there (c .before .before);
+      no-sid = λ e. c .before .before .before .before .before .before .before .if2 .left (t .ensures ∙ e);
+      no-modes = ap (carriesModes (formatOf (a .f))) (sym (t .ensures)) ∙ sym (c .before .before .before .before .before .before .carries-modes .ensures) ∙ c .before .before .before .before .before .if3 .left;
+      size = c .before .before .before .before .octets-of .ensures .0 ∙ ap (octets (formatOf (a .f))) (t .ensures);
+      enough = c .before .before .if5 .left;
+      spare = sym (c .before .spare-clear .ensures) ∙ c .if6 .taken;
+    }
 
 returns-7 : tie.Need-returns-7
 returns-7 c =

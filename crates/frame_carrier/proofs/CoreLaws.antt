@@ -1,0 +1,251 @@
+-- The sizes of a core in each format, and where the source's bits are the core and its zeros. Assumes nothing.
+use mathlib.Core.Path.{_≡_, refl, sym, ap, ap₂, _∙_, subst}
+use mathlib.Core.Bool.{Bool, true, false, _&&_}
+use mathlib.Core.Logic.{_≢_}
+use mathlib.Core.List.{List, _++_}
+use Prim.Native.Nat.{ℕ, suc, _+_, _-_, _*_, _/_, _<_, _≤_}
+use native.Mathlib.Omega.{arith}
+use lib.Dec.{eqb, leb, ltb}
+use lib.ListN.{length, take, drop, replicate, length-take, length-drop}
+use lib.Seq.{drop-drop, drop-append-le}
+use borrow.Author.Tests.{eqb-true, leb-true, leb-false, le-leb, ltb-true, ltb-false}
+use Rattle.bits.specs.Bits.{bits, packs, one-if, Octets, copied}
+use Rattle.bits.proofs.BitLaws.{length-bits}
+use Rattle.bits.proofs.Tests.{and-left, and-right, every-below}
+use Rattle.definitions.specs.Frames.{Format, if1, if2, storage, Frame, known, coreBits, octets, coreOctets, headerBits, fillBits}
+use Rattle.definitions.specs.Claims.{Begins}
+use Rattle.definitions.proofs.Tables.{sized}
+use Rattle.frame.proofs.TableLaws.{room}
+use Rattle.frame_carrier.specs.Carriable.{coreAt, behind, Ends, Carriable}
+use Rattle.frame_carrier.proofs.PackLaws.{packs-padded, copied-octets}
+use Rattle.frame_carrier.proofs.CarryLaws.{source-core}
+
+-- ---- sizes
+
+pub record Sizes (t : ℕ) : Type 0 where
+  pub type-known : known t ≡ true
+  pub three : 3 ≤ coreBits t
+  pub some : 1 ≤ coreOctets t
+  pub few : coreOctets t ≤ 60
+  pub in-if1 : octets if1 t ≡ 3 + coreOctets t
+  pub in-storage : octets storage t ≡ 1 + coreOctets t
+  pub in-if2 : coreOctets t ≤ octets if2 t
+  pub most-if2 : octets if2 t ≤ coreOctets t + 1
+
+size-test : ℕ → Bool
+size-test t =
+    known t
+    && (leb 3 (coreBits t)
+    && (leb 1 (coreOctets t)
+    && (leb (coreOctets t) 60
+    && (eqb (octets if1 t) (3 + coreOctets t)
+    && (eqb (octets storage t) (1 + coreOctets t) && (leb (coreOctets t) (octets if2 t) && leb (octets if2 t) (coreOctets t + 1)))))))
+
+size-tested : (t : ℕ) → t < 10 → size-test t ≡ true
+unfolding size-test known coreBits octets
+size-tested t h = every-below 10 size-test refl t h
+
+pub sizes : (t : ℕ) → t ≤ 9 → Sizes t
+unfolding size-test
+sizes t h =
+    let a = size-tested t (omega arith) in
+    let b = and-right (known t) _ a in
+    let c = and-right (leb 3 (coreBits t)) _ b in
+    let d = and-right (leb 1 (coreOctets t)) _ c in
+    let e = and-right (leb (coreOctets t) 60) _ d in
+    let f = and-right (eqb (octets if1 t) (3 + coreOctets t)) _ e in
+    let g = and-right (eqb (octets storage t) (1 + coreOctets t)) _ f in
+    record {
+      type-known = and-left _ _ a;
+      three = leb-true _ _ (and-left _ _ b);
+      some = leb-true _ _ (and-left _ _ c);
+      few = leb-true _ _ (and-left _ _ d);
+      in-if1 = eqb-true _ _ (and-left _ _ e);
+      in-storage = eqb-true _ _ (and-left _ _ f);
+      in-if2 = leb-true _ _ (and-left _ _ g);
+      most-if2 = leb-true _ _ (and-right (leb (coreOctets t) (octets if2 t)) _ g);
+    }
+
+-- an octet-aligned format: not IF2
+pub aligned-header : (f : Format) (t : ℕ) → f ≢ if2 → t ≤ 9 → (8 * coreAt f ≡ headerBits f t) × (octets f t ≡ coreAt f + coreOctets t)
+aligned-header if1 t n h = (sym (rw (le-leb t 9 h)), sizes t h .in-if1)
+aligned-header if2 t n h = absurd (n refl)
+aligned-header storage t n h = (refl, sizes t h .in-storage)
+
+core-at-most : (f : Format) → coreAt f ≤ 3
+core-at-most if1 = omega arith
+core-at-most if2 = omega arith
+core-at-most storage = omega arith
+
+behind-whole : (g : Format) (w : List Bool) → g ≢ if2 → behind g w ≡ w
+behind-whole if1 w n = refl
+behind-whole if2 w n = absurd (n refl)
+behind-whole storage w n = refl
+
+-- ---- the source
+
+module _ (f g : Format) (t : ℕ) (src out : List ℕ) (x : Frame) (h : t ≤ 9) (ex : x .type ≡ t) (c : Carriable f g src x out) where
+  core-long : length (x .core) ≡ coreBits t
+  core-long = c .begins .valid .core-length ∙ ap coreBits ex
+
+  -- the bits behind the frame
+  abbrev pub after : List Bool
+  after = bits (drop (octets f (x .type)) src)
+
+  stream : drop (headerBits f t) (bits src) ≡ x .core ++ (replicate (fillBits f t) false ++ after)
+  stream =
+      ap (λ k. drop (headerBits f k) (bits src)) (sym ex) ∙ source-core f src x (octets f (x .type)) (c .begins)
+      ∙ ap (λ k. x .core ++ (replicate (fillBits f k) false ++ bits (drop (octets f (x .type)) src))) ex
+
+  filled : headerBits f t + coreBits t + fillBits f t ≡ 8 * octets f t
+  filled = let r = room f t (sizes t h .type-known) in omega (arith, r .0)
+
+  pub source-long : octets f t ≤ length src
+  source-long =
+      let l = ap length (c .begins .laid) in
+      let e : octets f (x .type) ≡ octets f t = ap (octets f) ex in
+      omega (arith, c .begins .size, length-take (octets f (x .type)) src)
+
+  pub room-there : octets g t ≤ length out
+  room-there = let e : octets g (x .type) ≡ octets g t = ap (octets g) ex in omega (arith, c .room)
+
+  -- where the core begins an octet
+  module _ (n : f ≢ if2) where
+    pub whole-stream : drop (8 * coreAt f) (bits src) ≡ x .core ++ (replicate (fillBits f t) false ++ after)
+    whole-stream = ap (λ k. drop k (bits src)) (aligned-header f t n h .0) ∙ stream
+
+    pub whole-filled : length (x .core) + fillBits f t ≡ 8 * coreOctets t
+    whole-filled = let a = aligned-header f t n h in omega (arith, core-long, filled, a .0, a .1)
+
+    pub whole-ends : Ends src (coreAt f) 3 (coreOctets t - 1) (drop 3 (x .core)) (fillBits f t) after
+    whole-ends = record {
+      stream =
+          sym (drop-drop 3 (8 * coreAt f) (bits src)) ∙ ap (drop 3) whole-stream
+          ∙ drop-append-le 3 (x .core) (replicate (fillBits f t) false ++ after) (omega (arith, core-long, sizes t h .three));
+      border = omega (arith, whole-filled, core-long, sizes t h .three, sizes t h .some, length-drop 3 (x .core));
+    }
+
+pub if2-ends : (g : Format) (t : ℕ) (src out : List ℕ) (x : Frame) (h : t ≤ 9) (ex : x .type ≡ t) (c : Carriable if2 g src x out)
+    → Ends src 0 5 (octets if2 t - 1) (x .core) (fillBits if2 t) (after if2 g t src out x h ex c)
+if2-ends g t src out x h ex c = record {
+  stream = stream if2 g t src out x h ex c;
+  border = omega (arith, filled if2 g t src out x h ex c, core-long if2 g t src out x h ex c, sizes t h .some, sizes t h .in-if2);
+}
+
+-- ---- how many octets
+
+pub count-up : (m n : ℕ) → 1 ≤ m → m ≤ n → n ≤ m + 1 → m - 1 + one-if (ltb m n) ≡ n - 1
+count-up m n s l k = go (ltb m n) refl
+  where
+    go : (b : Bool) → ltb m n ≡ b → m - 1 + one-if b ≡ n - 1
+    go true e = omega (arith, ltb-true m n e)
+    go false e = omega (arith, ltb-false m n e)
+
+pub count-down : (m n : ℕ) → 1 ≤ m → m ≤ n → n ≤ m + 1 → n - 1 + one-if (leb n m) ≡ m
+count-down m n s l k = go (leb n m) refl
+  where
+    go : (b : Bool) → leb n m ≡ b → n - 1 + one-if b ≡ m
+    go true e = omega (arith, leb-true n m e)
+    go false e = omega (arith, leb-false n m e)
+
+-- ---- what the movers ask and give, by the code's numbers: k bits of core, n octets in IF2, the core from octet i or j on
+
+module _ (t k n : ℕ) (h : t ≤ 9) (ek : k ≡ coreBits t) (en : n ≡ octets if2 t) where
+  core-octets : (k + 7) / 8 ≡ coreOctets t
+  core-octets = ap (λ k. (k + 7) / 8) ek
+
+  pub some-octet : (1 ≤ (k + 7) / 8) × (1 ≤ n)
+  some-octet = let s = sizes t h in (omega (arith, core-octets, s .some), omega (arith, s .some, s .in-if2))
+
+  up : (k + 7) / 8 - 1 + one-if (ltb ((k + 7) / 8) n) ≡ octets if2 t - 1
+  up =
+      let s = sizes t h in
+      count-up ((k + 7) / 8) n (some-octet .0) (omega (arith, core-octets, s .in-if2)) (omega (arith, core-octets, s .most-if2)) ∙ ap (λ m. m - 1) en
+
+  down : n - 1 + one-if (leb n ((k + 7) / 8)) ≡ coreOctets t
+  down =
+      let s = sizes t h in
+      count-down ((k + 7) / 8) n (some-octet .0) (omega (arith, core-octets, s .in-if2)) (omega (arith, core-octets, s .most-if2)) ∙ core-octets
+
+  module _ (f : Format) (i : ℕ) (src out : List ℕ) (x : Frame) (ei : i ≡ coreAt f) (ex : x .type ≡ t) (c : Carriable f if2 src x out) where
+    at-most : coreAt f + coreOctets t ≤ length src
+    at-most = omega (arith, aligned-header f t (c .others) h .1, source-long f if2 t src out x h ex c)
+
+    pub up-asks : (i + ((k + 7) / 8 - 1) < length src) × (1 + ((k + 7) / 8 - 1) + one-if (ltb ((k + 7) / 8) n) ≤ length out)
+        × (1 + ((k + 7) / 8 - 1) < 65536) × (i + ((k + 7) / 8 - 1) < 65536)
+    up-asks =
+        let s = sizes t h in
+        let b = core-at-most f in (
+          omega (arith, at-most, core-octets, s .some),
+          omega (arith, up, room-there f if2 t src out x h ex c, s .some, s .in-if2),
+          omega (arith, core-octets, s .few),
+          omega (arith, core-octets, s .few, b),
+        )
+
+    pub up-gives : (d : List ℕ)
+        → ((w : List Bool) (z : ℕ) (r : List Bool) → Ends src i 3 ((k + 7) / 8 - 1) w z r
+        → d ≡ take 1 out ++ (packs ((k + 7) / 8 - 1 + one-if (ltb ((k + 7) / 8) n)) w ++ drop (1 + ((k + 7) / 8 - 1 + one-if (ltb ((k + 7) / 8) n))) out))
+        → d ≡ take 1 out ++ (packs (octets if2 t - 1) (drop 3 (x .core)) ++ drop (octets if2 t) out)
+    up-gives d e =
+        let s = sizes t h in
+        let w = drop 3 (x .core) in
+        let o : 1 + (octets if2 t - 1) ≡ octets if2 t = omega (arith, s .some, s .in-if2) in
+        let ends : Ends src i 3 ((k + 7) / 8 - 1) (drop 3 (x .core)) (fillBits f t) (after f if2 t src out x h ex c) =
+        subst (λ q. Ends src q 3 ((k + 7) / 8 - 1) w (fillBits f t) (after f if2 t src out x h ex c)) (sym ei)
+        (subst (λ q. Ends src (coreAt f) 3 (q - 1) w (fillBits f t) (after f if2 t src out x h ex c)) (sym core-octets) (whole-ends f if2 t src out x h ex c (c .others))) in
+        e w _ _ ends
+        ∙ ap (λ q. take 1 out ++ (packs q w ++ drop (1 + q) out)) up ∙ ap (λ q. take 1 out ++ (packs (octets if2 t - 1) w ++ drop q out)) o
+
+  module _ (g : Format) (j : ℕ) (src out : List ℕ) (x : Frame) (ej : j ≡ coreAt g) (ex : x .type ≡ t) (c : Carriable if2 g src x out) where
+    others : g ≢ if2
+    others e = c .others (sym e)
+
+    pub down-asks : (0 + (n - 1) < length src) × (j + (n - 1) + one-if (leb n ((k + 7) / 8)) ≤ length out) × (j + (n - 1) < 65536) × (0 + (n - 1) < 65536)
+    down-asks =
+        let s = sizes t h in
+        let b = core-at-most g in (
+          omega (arith, source-long if2 g t src out x h ex c, s .some, s .in-if2),
+          omega (arith, down, room-there if2 g t src out x h ex c, aligned-header g t others h .1),
+          omega (arith, s .most-if2, s .few, b),
+          omega (arith, s .most-if2, s .few),
+        )
+
+    pub down-gives : (d : List ℕ)
+        → ((w : List Bool) (z : ℕ) (r : List Bool) → Ends src 0 5 (n - 1) w z r
+        → d ≡ take j out ++ (packs (n - 1 + one-if (leb n ((k + 7) / 8))) w ++ drop (j + (n - 1 + one-if (leb n ((k + 7) / 8)))) out))
+        → d ≡ take (coreAt g) out ++ (packs (octets g t - coreAt g) (behind g (x .core)) ++ drop (octets g t) out)
+    down-gives d e =
+        let w = x .core in
+        let a = aligned-header g t others h .1 in
+        let p : coreOctets t ≡ octets g t - coreAt g = omega (arith, a) in
+        e w _ _ (subst (λ q. Ends src 0 5 (q - 1) w (fillBits if2 t) (after if2 g t src out x h ex c)) (sym en) (if2-ends g t src out x h ex c))
+        ∙ ap₂ (λ q b. take b out ++ (packs q w ++ drop (b + q) out)) down ej
+        ∙ ap₂ (λ q b. take (coreAt g) out ++ (packs q w ++ drop b out)) p (sym a)
+        ∙ ap (λ w. take (coreAt g) out ++ (packs (octets g t - coreAt g) w ++ drop (octets g t) out)) (sym (behind-whole g w others))
+
+  module _ (f g : Format) (i j : ℕ) (src out : List ℕ) (x : Frame) (nf : f ≢ if2) (ng : g ≢ if2) (ei : i ≡ coreAt f) (ej : j ≡ coreAt g) (ex : x .type ≡ t)
+      (c : Carriable f g src x out) where
+    pub over-asks : (i + (k + 7) / 8 ≤ length src) × (j + (k + 7) / 8 ≤ length out)
+    over-asks = (
+      omega (arith, core-octets, aligned-header f t nf h .1, source-long f g t src out x h ex c),
+      omega (arith, core-octets, aligned-header g t ng h .1, room-there f g t src out x h ex c),
+    )
+
+    pub over-gives : (d : List ℕ) → Octets out → Octets d
+        → bits d ≡ copied (bits out) (8 * j) (drop (8 * i) (bits src)) (8 * ((k + 7) / 8))
+        → d ≡ take (coreAt g) out ++ (packs (octets g t - coreAt g) (behind g (x .core)) ++ drop (octets g t) out)
+    over-gives d o₀ o e =
+        let w = x .core in
+        let a = aligned-header g t ng h .1 in
+        let p : coreOctets t ≡ octets g t - coreAt g = omega (arith, a) in
+        let s : drop (8 * i) (bits src) ≡ w ++ (replicate (fillBits f t) false ++ after f g t src out x h ex c) =
+        ap (λ q. drop (8 * q) (bits src)) ei ∙ whole-stream f g t src out x h ex c nf in
+        let l : 8 * coreOctets t ≤ length (drop (8 * i) (bits src)) =
+        omega (arith, length-drop (8 * i) (bits src), length-bits src, over-asks .0, core-octets) in
+        copied-octets d out j (coreOctets t) (drop (8 * i) (bits src)) o o₀ l
+        (e ∙ ap (λ q. copied (bits out) (8 * j) (drop (8 * i) (bits src)) (8 * q)) core-octets)
+        ∙ ap (λ v. take j out ++ (v ++ drop (j + coreOctets t) out))
+        (ap (packs (coreOctets t)) s ∙ packs-padded (coreOctets t) w (fillBits f t) _ (omega (arith, whole-filled f g t src out x h ex c nf)))
+        ∙ ap (λ b. take b out ++ (packs (coreOctets t) w ++ drop (b + coreOctets t) out)) ej
+        ∙ ap₂ (λ q b. take (coreAt g) out ++ (packs q w ++ drop b out)) p (sym a)
+        ∙ ap (λ w. take (coreAt g) out ++ (packs (octets g t - coreAt g) w ++ drop (octets g t) out)) (sym (behind-whole g w ng))

@@ -1,0 +1,4 @@
+pub mod PackLaws
+pub mod MoveLaws
+pub mod CarryLaws
+pub mod CoreLaws

@@ -1,0 +1,74 @@
+// Carrying a valid frame over to another format, as the conversion does it: octets go over whole or shifted, many at a time. The source
+// is valid, so that behind its core there is nothing but zeros up to the frame's end. `carry_frame` is `pub` for the converter.
+use frame::Format;
+use frame::table::class_a;
+use frame::table::core_bits;
+use frame::table::octets_of;
+use frame_builder::first_octet;
+use frame_reader::quality_in;
+use frame_reader::type_in;
+ghost use mathlib.Core.Path.{_≡_};
+ghost use mathlib.Core.Bool.{Bool, true, false};
+ghost use mathlib.Core.Logic.{_≢_};
+ghost use mathlib.Core.List.{List, _++_};
+ghost use Prim.Native.Nat.{ℕ, _+_, _-_, _*_, _<_, _≤_};
+ghost use lib.ListN.{length, take, drop, replicate};
+ghost use Rattle.bits.specs.Bits.{bits, packs, one-if};
+ghost use Rattle.definitions.specs.Frames.{if1, if2, Frame, known, coreBits, octets, layout};
+ghost use Rattle.recordings.specs.Conversion.{carried};
+ghost use Rattle.frame.specs.Answers.{formatOf};
+ghost use Rattle.frame_carrier.specs.Carriable.{coreAt, Shift, Ends, Carriable, CoreMoved};
+
+// The last type that has a core.
+const LAST_CORE: u8 = 9;
+
+// The first octet that holds nothing but core.
+fn core_at(f: Format) -> usize
+    ensures { λ r. ⌜ (r ≡ coreAt (formatOf f)) × (r ≤ 3) ⌝ }
+{
+    match f {
+        Format::If1 => 3,
+        Format::If2 => 1,
+        Format::Storage => 1,
+    }
+}
+
+// Moves `c` octets of bits from bit `a` of octet `i` of `src`, and then, where it is asked, what is left of the source frame's last octet.
+fn move_shifted(src: &[u8], i: usize, a: usize, c: usize, last: bool, out: &mut [u8], j: usize)
+    requires { ⌜ Shift a × (i + c < length (now src)) × (j + c + one-if last ≤ length (now out)) × (j + c < 65536) × (i + c < 65536) ⌝ }
+    ensures { λ _. ⌜ ((w : List Bool) (z : ℕ) (r : List Bool) → Ends (now (src .entry)) i a c w z r → now (out .exit) ≡ take j (now (out .entry)) ++ (packs (c + one-if last) w ++ drop (j + (c + one-if last)) (now (out .entry)))) ⌝ }
+{
+    bits::copy_shifted(src, i, a, c, out, j);
+    if last {
+        out[j + c] = src[i + c] << a;
+    }
+}
+
+// Moves the core of a frame of IF1 or storage format to IF2.
+fn to_if2(f: Format, t: usize, src: &[u8], out: &mut [u8])
+    requires { ⌜ (t ≤ 9) × ((x : Frame) × (x .type ≡ t) × Carriable (formatOf f) if2 (now src) x (now out)) ⌝ }
+    ensures { λ _. ⌜ CoreMoved (formatOf f) if2 t (now (src .entry)) (now (out .entry)) (now (out .exit)) ⌝ }
+{
+    let m = (core_bits(t) + 7) / 8;
+    let n = octets_of(Format::If2, t);
+    move_shifted(src, core_at(f), 3, m - 1, m < n, out, 1);
+}
+
+// Moves the core of an IF2 frame to IF1 or storage format.
+fn from_if2(g: Format, t: usize, src: &[u8], out: &mut [u8])
+    requires { ⌜ (t ≤ 9) × ((x : Frame) × (x .type ≡ t) × Carriable if2 (formatOf g) (now src) x (now out)) ⌝ }
+    ensures { λ _. ⌜ CoreMoved if2 (formatOf g) t (now (src .entry)) (now (out .entry)) (now (out .exit)) ⌝ }
+{
+    let m = (core_bits(t) + 7) / 8;
+    let n = octets_of(Format::If2, t);
+    move_shifted(src, 0, 5, n - 1, n <= m, out, core_at(g));
+}
+
+// Moves the core of a frame between IF1 and storage format.
+fn over_whole(f: Format, g: Format, t: usize, src: &[u8], out: &mut [u8])
+    requires { ⌜ (t ≤ 9) × (formatOf f ≢ if2) × (formatOf g ≢ if2) × ((x : Frame) × (x .type ≡ t) × Carriable (formatOf f) (formatOf g) (now src) x (now out)) ⌝ }
+    ensures { λ _. ⌜ CoreMoved (formatOf f) (formatOf g) t (now (src .entry)) (now (out .entry)) (now (out .exit)) ⌝ }
+{
+    let m = (core_bits(t) + 7) / 8;
+    bits::copy_whole(src, core_at(f), m, out, core_at(g));
+}
