@@ -432,31 +432,120 @@ copied-more d x at t m k hd ht e =
     (sym (append-assoc (take m t) (take k (drop m t)) (drop (at + (m + k)) d))
     ∙ ap (λ (y : List Bool). y ++ drop (at + (m + k)) d) (sym (take-add m k t))))
 
+-- what follows a copy of k bits is as it was
+pub past : (d : List Bool) (at : ℕ) (s : List Bool) (k n : ℕ) (x : List Bool) → at + k ≤ length d → k ≤ length s → k ≤ n
+    → x ≡ copied d at s k → drop (at + n) x ≡ drop (at + n) d
+past d at s k n x hd hs h e =
+    let p : List Bool = take at d ++ take k s in
+    let r : List Bool = drop (at + k) d in
+    let lp : length (take at d ++ take k s) ≡ at + k = length-paste-head d at s k (omega arith) hs in
+    let ex : x ≡ take at d ++ take k s ++ drop (at + k) d = e ∙ sym (append-assoc (take at d) (take k s) r) in
+    let more : at + k + (n - k) ≡ at + n = omega arith in
+    ap (λ (i : ℕ). drop i x) (sym more) ∙ sym (drop-drop (n - k) (at + k) x)
+    ∙ ap (drop (n - k)) (ap (drop (at + k)) ex ∙ drop-at p r (at + k) lp)
+    ∙ drop-drop (n - k) (at + k) d ∙ ap (λ (i : ℕ). drop i d) more
+
+-- and it begins with what was in front of them, and them
+pub front : (d : List Bool) (at : ℕ) (s : List Bool) (k : ℕ) (x : List Bool) → at + k ≤ length d → k ≤ length s
+    → x ≡ copied d at s k → take (at + k) x ≡ take at d ++ take k s
+front d at s k x hd hs e =
+    ap (take (at + k)) (e ∙ sym (append-assoc (take at d) (take k s) (drop (at + k) d)))
+    ∙ take-at (take at d ++ take k s) (drop (at + k) d) (at + k) (length-paste-head d at s k (omega arith) hs)
+
+-- octets whose bits are l, filled up, and then those of d₀
+pub packed-is : (d₀ d : List ℕ) (l : List Bool) (e : ℕ) → Octets d₀ → Octets d → length l ≡ e
+    → bits d ≡ l ++ (replicate (8 * octetsFor e - e) false ++ drop (8 * octetsFor e) (bits d₀))
+    → d ≡ pack l ++ drop (octetsFor e) d₀
+packed-is d₀ d l e o₀ o ll h =
+    let m : ℕ = octetsFor e in
+    let k : ℕ = 8 * octetsFor e - e in
+    bits-injective d (pack l ++ drop m d₀) o (octets-append (pack l) (drop m d₀) (pack-octets l) (octets-drop m d₀ o₀))
+    (h ∙ sym (append-assoc l (replicate k false) (drop (8 * m) (bits d₀)))
+    ∙ ap₂ (λ (x y : List Bool). x ++ y)
+    (ap (λ (i : ℕ). l ++ replicate (8 * octetsFor i - i) false) (sym ll) ∙ sym (bits-pack l)) (sym (bits-drop m d₀))
+    ∙ sym (bits-append (pack l) (drop m d₀)))
+
 -- a run of bits put in place and filled up, as octets: d₁ has the run, and d₂ also the filling
 pub put-is : (src d₀ d₁ d₂ : List ℕ) (from n at : ℕ) → Octets d₀ → Octets d₂ → from + n ≤ 8 * length src → at + n ≤ 8 * length d₀
     → bits d₁ ≡ copied (bits d₀) at (drop from (bits src)) n
     → bits d₂ ≡ take (at + n) (bits d₁) ++ (replicate (8 * octetsFor (at + n) - (at + n)) false ++ drop (8 * octetsFor (at + n)) (bits d₁))
     → d₂ ≡ pack (take at (bits d₀) ++ take n (drop from (bits src))) ++ drop (octetsFor (at + n)) d₀
 put-is src d₀ d₁ d₂ from n at o₀ o₂ hs hd e₁ e₂ =
-    let l : List Bool = take at (bits d₀) ++ take n (drop from (bits src)) in
-    let m : ℕ = octetsFor (at + n) in
+    let s : List Bool = drop from (bits src) in
     let k : ℕ = 8 * octetsFor (at + n) - (at + n) in
-    let ll : length (take at (bits d₀) ++ take n (drop from (bits src))) ≡ at + n =
-    length-paste-head (bits d₀) at (drop from (bits src)) n (omega (arith, length-bits d₀)) (omega (arith, length-drop from (bits src), length-bits src)) in
-    let e : bits d₁ ≡ take at (bits d₀) ++ take n (drop from (bits src)) ++ drop (at + n) (bits d₀) =
-    e₁ ∙ sym (append-assoc (take at (bits d₀)) (take n (drop from (bits src))) (drop (at + n) (bits d₀))) in
-    let all : at + n + (8 * octetsFor (at + n) - (at + n)) ≡ 8 * octetsFor (at + n) = omega arith in
-    let front : take (at + n) (bits d₁) ≡ l = ap (take (at + n)) e ∙ take-at l (drop (at + n) (bits d₀)) (at + n) ll in
-    let back : drop (8 * m) (bits d₁) ≡ drop (8 * m) (bits d₀) =
-    ap (λ (i : ℕ). drop i (bits d₁)) (sym all) ∙ sym (drop-drop k (at + n) (bits d₁))
-    ∙ ap (drop k) (ap (drop (at + n)) e ∙ drop-at l (drop (at + n) (bits d₀)) (at + n) ll)
-    ∙ drop-drop k (at + n) (bits d₀) ∙ ap (λ (i : ℕ). drop i (bits d₀)) all in
-    bits-injective d₂ (pack l ++ drop m d₀) o₂ (octets-append (pack l) (drop m d₀) (pack-octets l) (octets-drop m d₀ o₀))
-    (e₂ ∙ ap₂ (λ (x y : List Bool). x ++ (replicate k false ++ y)) front back
-    ∙ sym (append-assoc l (replicate k false) (drop (8 * m) (bits d₀)))
-    ∙ ap₂ (λ (x y : List Bool). x ++ y)
-    (ap (λ (i : ℕ). l ++ replicate (8 * octetsFor i - i) false) (sym ll) ∙ sym (bits-pack l)) (sym (bits-drop m d₀))
-    ∙ sym (bits-append (pack l) (drop m d₀)))
+    let room : at + n ≤ length (bits d₀) = omega (arith, length-bits d₀) in
+    let enough : n ≤ length (drop from (bits src)) = omega (arith, length-drop from (bits src), length-bits src) in
+    let all : at + (n + (8 * octetsFor (at + n) - (at + n))) ≡ 8 * octetsFor (at + n) = omega arith in
+    let back : drop (8 * octetsFor (at + n)) (bits d₁) ≡ drop (8 * octetsFor (at + n)) (bits d₀) =
+    ap (λ (i : ℕ). drop i (bits d₁)) (sym all)
+    ∙ past (bits d₀) at s n (n + k) (bits d₁) room enough (omega arith) e₁ ∙ ap (λ (i : ℕ). drop i (bits d₀)) all in
+    packed-is d₀ d₂ (take at (bits d₀) ++ take n s) (at + n) o₀ o₂ (length-paste-head (bits d₀) at s n (omega arith) enough)
+    (e₂ ∙ ap₂ (λ (x y : List Bool). x ++ (replicate k false ++ y)) (front (bits d₀) at s n (bits d₁) room enough e₁) back)
+
+-- the same where d₁ has the run but for its last k bits, which begin octet j, and d₂ those too, filled up
+pub put-last-is : (src d₀ d₁ d₂ : List ℕ) (from n at done k j p : ℕ) → Octets d₀ → Octets d₂ → from + n ≤ 8 * length src → at + n ≤ 8 * length d₀
+    → done + k ≡ n → at + done ≡ 8 * j → p ≡ from + done
+    → bits d₁ ≡ copied (bits d₀) at (drop from (bits src)) done
+    → bits d₂ ≡ take (8 * j) (bits d₁) ++ (take k (drop p (bits src)) ++ (replicate (8 * octetsFor k - k) false ++ drop (8 * (j + octetsFor k)) (bits d₁)))
+    → d₂ ≡ pack (take at (bits d₀) ++ take n (drop from (bits src))) ++ drop (octetsFor (at + n)) d₀
+put-last-is src d₀ d₁ d₂ from n at done k j p o₀ o₂ hs hd ek ej ep e₁ e₂ =
+    let s : List Bool = drop from (bits src) in
+    let x : List Bool = take at (bits d₀) in
+    let room : at + n ≤ length (bits d₀) = omega (arith, length-bits d₀) in
+    let enough : n ≤ length (drop from (bits src)) = omega (arith, length-drop from (bits src), length-bits src) in
+    let run : take (8 * j) (bits d₁) ++ take k (drop p (bits src)) ≡ take at (bits d₀) ++ take n (drop from (bits src)) =
+    ap₂ (λ (b c : List Bool). b ++ c)
+    (ap (λ (i : ℕ). take i (bits d₁)) (sym ej) ∙ front (bits d₀) at s done (bits d₁) (omega arith) (omega arith) e₁)
+    (ap (λ (i : ℕ). take k (drop i (bits src))) ep ∙ ap (take k) (sym (drop-drop done from (bits src))))
+    ∙ append-assoc x (take done s) (take k (drop done s))
+    ∙ ap (λ (q : List Bool). x ++ q) (sym (take-add done k s) ∙ ap (λ (i : ℕ). take i s) ek) in
+    let fill : 8 * octetsFor k - k ≡ 8 * octetsFor (at + n) - (at + n) = omega arith in
+    let place : 8 * (j + octetsFor k) ≡ at + (done + 8 * octetsFor k) = omega arith in
+    let all : at + (done + 8 * octetsFor k) ≡ 8 * octetsFor (at + n) = omega arith in
+    let back : drop (8 * (j + octetsFor k)) (bits d₁) ≡ drop (8 * octetsFor (at + n)) (bits d₀) =
+    ap (λ (i : ℕ). drop i (bits d₁)) place
+    ∙ past (bits d₀) at s done (done + 8 * octetsFor k) (bits d₁) (omega arith) (omega arith) (omega arith) e₁
+    ∙ ap (λ (i : ℕ). drop i (bits d₀)) all in
+    packed-is d₀ d₂ (x ++ take n s) (at + n) o₀ o₂ (length-paste-head (bits d₀) at s n (omega arith) enough)
+    (e₂ ∙ sym (append-assoc (take (8 * j) (bits d₁)) (take k (drop p (bits src))) (replicate (8 * octetsFor k - k) false ++ drop (8 * (j + octetsFor k)) (bits d₁)))
+    ∙ ap₂ (λ (b c : List Bool). b ++ c) run (ap₂ (λ (i : ℕ) (q : List Bool). replicate i false ++ q) fill back))
+
+-- the octet that holds the last k bits of a run
+module _ (src d : List ℕ) (from k j : ℕ) where
+  abbrev pub Last : List ℕ → Type 0
+  Last d′ = bits d′ ≡ take (8 * j) (bits d) ++ (take k (drop from (bits src)) ++ (replicate (8 * octetsFor k - k) false ++ drop (8 * (j + octetsFor k)) (bits d)))
+
+  take-pad : (i n : ℕ) (l r : List Bool) → i ≤ n → i ≤ length l → take i (take n l ++ r) ≡ take i l
+  take-pad zero n l r h g = refl
+  take-pad (suc i) zero l r h g = absurd (not-suc-le-zero h)
+  take-pad (suc i) (suc n) [] r h g = absurd (not-suc-le-zero g)
+  take-pad (suc i) (suc n) (b ∷ l) r h g = ap (λ (x : List Bool). b ∷ x) (take-pad i n l r (le-of-suc-le-suc h) (le-of-suc-le-suc g))
+
+  pub last-octet : (f y : ℕ) → 0 < k → k < 8 → from + k ≤ 8 * length src → 8 * j + k ≤ 8 * length d
+      → f ≡ num 8 (drop from (bits src))
+      → digits 8 y ≡ take k (digits 8 f) ++ (digits (8 - k) 0 ++ drop (k + (8 - k)) (digits 8 f))
+      → Last (set d j y)
+  last-octet f y h0 h8 hs hd ef ey =
+      let s : List Bool = drop from (bits src) in
+      let enough : k ≤ length (drop from (bits src)) = omega (arith, length-drop from (bits src), length-bits src) in
+      let few : 8 - k ≡ 8 * octetsFor k - k = omega arith in
+      let place : 8 * suc j ≡ 8 * (j + octetsFor k) = omega arith in
+      let old : take k (digits 8 f) ≡ take k (drop from (bits src)) =
+      ap (λ (i : ℕ). take k (digits 8 i)) ef ∙ ap (take k) (digits-num 8 s) ∙ take-pad k 8 s (replicate (8 - length s) false) (omega arith) enough in
+      let none : drop (k + (8 - k)) (digits 8 f) ≡ [] = drop-of-length-le (digits 8 f) {i = k + (8 - k)} (omega (arith, length-digits 8 f)) in
+      let new : digits 8 y ≡ take k (drop from (bits src)) ++ replicate (8 * octetsFor k - k) false =
+      ey ∙ ap₂ (λ (p q : List Bool). p ++ (digits (8 - k) 0 ++ q)) old none
+      ∙ ap (λ (q : List Bool). take k s ++ q) (append-nil (digits (8 - k) 0) ∙ digits-zero (8 - k) ∙ ap (λ (i : ℕ). replicate i false) few) in
+      bits-set j d y (omega arith)
+      ∙ ap₂ (λ (p q : List Bool). take (8 * j) (bits d) ++ (p ++ q)) new (bits-drop (suc j) d ∙ ap (λ (i : ℕ). drop i (bits d)) place)
+      ∙ ap (λ (q : List Bool). take (8 * j) (bits d) ++ q) (append-assoc (take k s) (replicate (8 * octetsFor k - k) false) (drop (8 * (j + octetsFor k)) (bits d)))
+
+-- no bits, no octet
+pub no-last : (src d : List ℕ) (from k j : ℕ) → k ≤ 0 → Last src d from k j d
+no-last src d from k j h =
+    let z : 0 ≡ k = omega arith in
+    subst (λ (i : ℕ). Last src d from i j d) z
+    (sym (ap (λ (i : ℕ). take (8 * j) (bits d) ++ drop (8 * i) (bits d)) (add-zero j) ∙ take-append-drop (8 * j) (bits d)))
 
 -- ---- a number written in front, and read again
 

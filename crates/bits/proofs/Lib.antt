@@ -1,3 +1,4 @@
 pub mod BitLaws
 pub mod Tests
 mod Masks
+mod Groups

@@ -179,39 +179,14 @@ shifted-is a b hi lo e h =
     ∙ mod-pow-add (hi * 2 ^ a + lo / 2 ^ b) b a
     ∙ ap₂ (λ (p q : ℕ). p % 2 ^ b * 2 ^ a + q) (high hi a l) (low hi a l))
 
--- three copies in a row: g bits, then m octets of bits, then the rest
-pub three : (src d₀ d₁ d₂ : List ℕ) (x : List Bool) (from at n g m j done : ℕ) → from + n ≤ 8 * length src → at + n ≤ 8 * length d₀
-    → length d₁ ≡ length d₀ → done ≡ g + 8 * m → done ≤ n → 8 * j ≡ at + g
+-- two copies in a row: g bits, and then m octets of bits, which begin at a border
+pub two : (src d₀ d₁ d₂ : List ℕ) (from at n g m j : ℕ) → from + n ≤ 8 * length src → at + n ≤ 8 * length d₀ → g + 8 * m ≤ n → 8 * j ≡ at + g
     → bits d₁ ≡ copied (bits d₀) at (drop from (bits src)) g
     → bits d₂ ≡ copied (bits d₁) (8 * j) (drop (from + g) (bits src)) (8 * m)
-    → x ≡ copied (bits d₂) (at + done) (drop (from + done) (bits src)) (n - done)
-    → x ≡ copied (bits d₀) at (drop from (bits src)) n
-three src d₀ d₁ d₂ x from at n g m j done hs hd l₁ ed hn ej e₁ e₂ e₃ =
-    let all : done + (n - done) ≡ n = omega arith in
-    let two : bits d₂ ≡ copied (bits d₀) at (drop from (bits src)) (g + 8 * m) =
+    → bits d₂ ≡ copied (bits d₀) at (drop from (bits src)) (g + 8 * m)
+two src d₀ d₁ d₂ from at n g m j hs hd h ej e₁ e₂ =
     then src d₀ d₁ from at g (8 * m) (bits d₂) (omega arith) (omega arith) e₁
-    (e₂ ∙ ap (λ (p : ℕ). copied (bits d₁) p (drop (from + g) (bits src)) (8 * m)) ej) in
-    then src d₀ d₂ from at done (n - done) x (omega arith) (omega arith)
-    (two ∙ ap (copied (bits d₀) at (drop from (bits src))) (sym ed)) e₃
-    ∙ ap (copied (bits d₀) at (drop from (bits src))) all
-
--- the rest after whole octets fits one octet, which starts at a border
-octets-exact : (q : ℕ) → q < 2 ^ 32 → q * 8 % 2 ^ 64 ≡ 8 * q
-octets-exact q h = omega arith
-
-border : (at g : ℕ) → g ≡ (8 - at % 8) % 8 → 8 * ((at + g) / 8) ≡ at + g
-border at g e = omega arith
-
-aligned : (p q j : ℕ) → p ≡ 8 * j → (p + 8 * q) % 8 ≡ 0
-aligned p q j e = omega arith
-
-pub rest-fits : (at n g : ℕ) → g ≡ (8 - at % 8) % 8 → g < n → n < 2 ^ 32
-    → (at + (g + (n - g) / 8 * 8 % 2 ^ 64)) % 8 + (n - (g + (n - g) / 8 * 8 % 2 ^ 64)) ≤ 8
-rest-fits at n g e h hn =
-    let q : ℕ = (n - g) / 8 in
-    let x : (n - g) / 8 * 8 % 2 ^ 64 ≡ 8 * ((n - g) / 8) = octets-exact q (omega arith) in
-    let z : (at + g + 8 * ((n - g) / 8)) % 8 ≡ 0 = aligned (at + g) q ((at + g) / 8) (sym (border at g e)) in
-    rw (x, ← add-assoc at g (8 * ((n - g) / 8)), z) (omega arith)
+    (e₂ ∙ ap (λ (p : ℕ). copied (bits d₁) p (drop (from + g) (bits src)) (8 * m)) ej)
 
 -- what `low_bits` computes
 pub low-is : (s : List ℕ) (n k : ℕ) → k ≤ 8 → 0 < n → n ≤ length s

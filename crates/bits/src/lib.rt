@@ -69,8 +69,8 @@ fn copy_part(src: &[u8], from: usize, k: usize, dst: &mut [u8], at: usize)
     }
 }
 
-// Copies `m` whole octets from octet `i` of `src` to octet `j` of `dst`.
-pub fn copy_whole(src: &[u8], i: usize, m: usize, dst: &mut [u8], j: usize)
+// Copies `m` whole octets from octet `i` of `src` to octet `j` of `dst`, one by one.
+fn each_whole(src: &[u8], i: usize, m: usize, dst: &mut [u8], j: usize)
     requires { ⌜ (i + m ≤ length (now src)) × (j + m ≤ length (now dst)) ⌝ }
     ensures { λ _. ⌜ bits (now (dst .exit)) ≡ copied (bits (now (dst .entry))) (8 * j) (drop (8 * i) (bits (now (src .entry)))) (8 * m) ⌝ }
 {
@@ -81,8 +81,8 @@ pub fn copy_whole(src: &[u8], i: usize, m: usize, dst: &mut [u8], j: usize)
     }
 }
 
-// Copies `m` octets of bits from bit `a` of octet `i` of `src`, where `a` is not 0, to octet `j` of `dst`.
-pub fn copy_shifted(src: &[u8], i: usize, a: usize, m: usize, dst: &mut [u8], j: usize)
+// Copies `m` octets of bits from bit `a` of octet `i` of `src`, where `a` is not 0, to octet `j` of `dst`, one by one.
+fn each_shifted(src: &[u8], i: usize, a: usize, m: usize, dst: &mut [u8], j: usize)
     requires { ⌜ (0 < a) × (a < 8) × (i + m < length (now src)) × (j + m ≤ length (now dst)) ⌝ }
     ensures { λ _. ⌜ bits (now (dst .exit)) ≡ copied (bits (now (dst .entry))) (8 * j) (drop (8 * i + a) (bits (now (src .entry)))) (8 * m) ⌝ }
 {
@@ -92,6 +92,60 @@ pub fn copy_shifted(src: &[u8], i: usize, a: usize, m: usize, dst: &mut [u8], j:
         let lo = src[i + t + 1];
         dst[j + t] = (hi << a) | (lo >> (8 - a));
         t += 1;
+    }
+}
+
+// Copies 16 whole octets. All are read before one is written, so that the machine can move them at once.
+fn group_whole(src: &[u8], i: usize, dst: &mut [u8], j: usize)
+    requires { ⌜ (i + 16 ≤ length (now src)) × (j + 16 ≤ length (now dst)) ⌝ }
+    ensures { λ _. ⌜ bits (now (dst .exit)) ≡ copied (bits (now (dst .entry))) (8 * j) (drop (8 * i) (bits (now (src .entry)))) (8 * 16) ⌝ }
+{
+    let mut group: [u8; 16] = [0; 16];
+    each_whole(src, i, 16, &mut group, 0);
+    each_whole(&group, 0, 16, dst, j);
+}
+
+// The same of octets that begin at bit `a` of octet `i`.
+fn group_shifted(src: &[u8], i: usize, a: usize, dst: &mut [u8], j: usize)
+    requires { ⌜ (0 < a) × (a < 8) × (i + 16 < length (now src)) × (j + 16 ≤ length (now dst)) ⌝ }
+    ensures { λ _. ⌜ bits (now (dst .exit)) ≡ copied (bits (now (dst .entry))) (8 * j) (drop (8 * i + a) (bits (now (src .entry)))) (8 * 16) ⌝ }
+{
+    let mut group: [u8; 16] = [0; 16];
+    each_shifted(src, i, a, 16, &mut group, 0);
+    each_whole(&group, 0, 16, dst, j);
+}
+
+// Copies `m` whole octets from octet `i` of `src` to octet `j` of `dst`, by groups of 16. The second group may begin within the first.
+pub fn copy_whole(src: &[u8], i: usize, m: usize, dst: &mut [u8], j: usize)
+    requires { ⌜ (i + m ≤ length (now src)) × (j + m ≤ length (now dst)) ⌝ }
+    ensures { λ _. ⌜ bits (now (dst .exit)) ≡ copied (bits (now (dst .entry))) (8 * j) (drop (8 * i) (bits (now (src .entry)))) (8 * m) ⌝ }
+{
+    if m < 16 {
+        each_whole(src, i, m, dst, j);
+        return;
+    }
+    group_whole(src, i, dst, j);
+    let mut t = ((m - 1) & 15) + 1;
+    while t < m {
+        group_whole(src, i + t, dst, j + t);
+        t += 16;
+    }
+}
+
+// Copies `m` octets of bits from bit `a` of octet `i` of `src`, where `a` is not 0, to octet `j` of `dst`, by groups as `copy_whole` does.
+pub fn copy_shifted(src: &[u8], i: usize, a: usize, m: usize, dst: &mut [u8], j: usize)
+    requires { ⌜ (0 < a) × (a < 8) × (i + m < length (now src)) × (j + m ≤ length (now dst)) ⌝ }
+    ensures { λ _. ⌜ bits (now (dst .exit)) ≡ copied (bits (now (dst .entry))) (8 * j) (drop (8 * i + a) (bits (now (src .entry)))) (8 * m) ⌝ }
+{
+    if m < 16 {
+        each_shifted(src, i, a, m, dst, j);
+        return;
+    }
+    group_shifted(src, i, a, dst, j);
+    let mut t = ((m - 1) & 15) + 1;
+    while t < m {
+        group_shifted(src, i + t, a, dst, j + t);
+        t += 16;
     }
 }
 
@@ -109,23 +163,6 @@ fn copy_octets(src: &[u8], from: usize, m: usize, dst: &mut [u8], j: usize)
     }
 }
 
-// Copies the `n` bits of `src` from index `from` to index `at` of `dst`: up to an octet's border of `dst`, then whole octets, then the rest.
-fn copy_run(src: &[u8], from: usize, n: usize, dst: &mut [u8], at: usize)
-    requires { ⌜ (from + n ≤ 8 * length (now src)) × (at + n ≤ 8 * length (now dst)) × (from + n < 2 ^ 32) × (at + n < 2 ^ 32) ⌝ }
-    ensures { λ _. ⌜ bits (now (dst .exit)) ≡ copied (bits (now (dst .entry))) at (drop from (bits (now (src .entry)))) n ⌝ }
-{
-    let gap = (8 - (at & 7)) & 7;
-    if n <= gap {
-        copy_part(src, from, n, dst, at);
-        return;
-    }
-    copy_part(src, from, gap, dst, at);
-    let m = (n - gap) >> 3;
-    copy_octets(src, from + gap, m, dst, (at + gap) >> 3);
-    let done = gap + (m << 3);
-    copy_part(src, from + done, n - done, dst, at + done);
-}
-
 // Clears the bits of `dst` from index `end` to the next octet's border.
 fn clear_to_border(dst: &mut [u8], end: usize)
     requires { ⌜ end ≤ 8 * length (now dst) ⌝ }
@@ -139,13 +176,33 @@ fn clear_to_border(dst: &mut [u8], end: usize)
     }
 }
 
+// Writes octet `j` of `dst`: the `k` bits of `src` from index `from`, filled up with 0. Of no bits it writes nothing.
+fn put_last(src: &[u8], from: usize, k: usize, dst: &mut [u8], j: usize)
+    requires { ⌜ (k < 8) × (from + k ≤ 8 * length (now src)) × (8 * j + k ≤ 8 * length (now dst)) ⌝ }
+    ensures { λ _. ⌜ bits (now (dst .exit)) ≡ take (8 * j) (bits (now (dst .entry))) ++ (take k (drop from (bits (now (src .entry)))) ++ (replicate (8 * octetsFor k - k) false ++ drop (8 * (j + octetsFor k)) (bits (now (dst .entry))))) ⌝ }
+{
+    if 0 < k {
+        dst[j] = with_field(field_at(src, from, 8), k, 8 - k, 0);
+    }
+}
+
 // Puts the `n` bits of `src` from index `from` behind the first `at` bits of `dst`, and fills their last octet up with 0. Later octets stay.
+// Up to an octet's border of `dst`, then whole octets, then the rest.
 pub fn put_run(src: &[u8], from: usize, n: usize, dst: &mut [u8], at: usize)
     requires { ⌜ (from + n ≤ 8 * length (now src)) × (at + n ≤ 8 * length (now dst)) × (from + n < 2 ^ 32) × (at + n < 2 ^ 32) ⌝ }
     ensures { λ _. ⌜ now (dst .exit) ≡ pack (take at (bits (now (dst .entry))) ++ take n (drop from (bits (now (src .entry))))) ++ drop (octetsFor (at + n)) (now (dst .entry)) ⌝ }
 {
-    copy_run(src, from, n, dst, at);
-    clear_to_border(dst, at + n);
+    let gap = (8 - (at & 7)) & 7;
+    if n < gap {
+        copy_part(src, from, n, dst, at);
+        clear_to_border(dst, at + n);
+        return;
+    }
+    copy_part(src, from, gap, dst, at);
+    let m = (n - gap) >> 3;
+    let j = (at + gap) >> 3;
+    copy_octets(src, from + gap, m, dst, j);
+    put_last(src, from + gap + (m << 3), (n - gap) & 7, dst, j + m);
 }
 
 // Does nothing. Its contract: packing and unpacking undo each other.

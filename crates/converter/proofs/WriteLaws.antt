@@ -1,30 +1,26 @@
 -- Writing in another format: what is written and what is still to come make the conversion, and a frame goes from the one to the other.
 -- Assumes nothing.
 use mathlib.Core.Path.{_≡_, refl, sym, ap, ap₂, _∙_, subst}
-use mathlib.Core.Bool.{Bool, true, false, cond}
+use mathlib.Core.Bool.{true, false}
 use mathlib.Core.Logic.{_≢_}
 use mathlib.Core.List.{List, [], _∷_, _++_, map, append-assoc, append-nil}
-use Prim.Native.Nat.{ℕ, _+_, _-_, _*_, _^_, _<_, _≤_}
+use Prim.Native.Nat.{ℕ, _+_, _-_, _<_, _≤_}
 use native.Mathlib.Omega.{arith}
-use lib.Dec.{leb}
 use lib.ListN.{length, take, drop, length-append, length-take, length-drop, take-append-drop, drop-of-length-le}
 use lib.Seq.{take-at, drop-at, drop-drop, take-all}
-use Rattle.bits.specs.Bits.{bits, num, Octets}
-use Rattle.bits.proofs.BitLaws.{num-lt, length-bits}
-use Rattle.definitions.specs.Frames.{Format, if1, if2, storage, Frame, known, coreBits, octets, layout, carriesModes, headerBits, typeIn, qualityIn, coreIn, frameIn}
+use Rattle.bits.specs.Bits.{bits, Octets}
+use Rattle.definitions.specs.Frames.{Format, Frame, known, octets, layout, typeIn, frameIn}
 use Rattle.definitions.specs.Reading.{readFrame, overwritten}
 use Rattle.definitions.specs.Claims.{Valid}
-use Rattle.definitions.proofs.Tables.{known-below, sized, core-most}
-use Rattle.definitions.proofs.Frames.{frame-path, type-frame, length-layout, read-layout, judged}
+use Rattle.definitions.proofs.Tables.{sized}
+use Rattle.definitions.proofs.Frames.{type-frame, length-layout, read-layout, judged}
 use Rattle.recordings.specs.Placed.{done}
 use Rattle.recordings.specs.Recordings.{limit, fileHeader, readRecording, layouts, writeRecording}
 use Rattle.recordings.specs.Conversion.{carried, converted}
 use Rattle.recordings.specs.Claims.{Every, none, first, IsRecording}
 use Rattle.recordings.proofs.Claims.{reads-recordings}
-use Rattle.recordings.proofs.Carried.{carried-keeps, size-carried}
-use Rattle.frame.specs.Answers.{frameWith}
-use Rattle.frame.specs.declared.FrameHeader.{FrameHeader}
-use Rattle.frame_builder.specs.Output.{Writable, runFrame}
+use Rattle.recordings.proofs.Carried.{size-carried}
+use Rattle.frame_carrier.specs.Carriable.{Carriable}
 
 -- the octets of frames that are carried over
 abbrev pub coming : (f g : Format) → ℕ → List Frame → List ℕ
@@ -195,105 +191,39 @@ written-end f g r s d₁ d₀ d at to xs h w e q =
         ∙ ap₂ _++_ (sym c) (w .beyond ∙ b ∙ ap (λ j. drop j d₁) (sym n))
         ∙ ap (λ l. overwritten (converted f g r l) d₁) same
 
--- ---- the header that is carried over
-
-below-16 : (b : Bool) (m : ℕ) → m < 16 → cond b m 0 < 16
-below-16 true m h = h
-below-16 false m h = omega arith
-
--- a carried frame's modes have their four bits
-carried-modes : (f g : Format) (r : ℕ) (x : Frame) → f ≢ g → r ≤ 8 → x .type < 16 → (carried g f r x .indication < 16) × (carried g f r x .request < 16)
-carried-modes if1 if1 r x n l t = absurd (n refl)
-carried-modes if2 if1 r x n l t = (below-16 (leb (x .type) 8) (x .type) t, below-16 (leb (x .type) 9) r (omega arith))
-carried-modes storage if1 r x n l t = (below-16 (leb (x .type) 8) (x .type) t, below-16 (leb (x .type) 9) r (omega arith))
-carried-modes f if2 r x n l t = (omega arith, omega arith)
-carried-modes f storage r x n l t = (omega arith, omega arith)
-
--- the mode that the code gives
-abbrev modeFor : Format → ℕ → ℕ → ℕ → ℕ
-modeFor g t last mode = cond (carriesModes g 0) (cond (leb t last) mode 0) 0
-
-pub header-carried : (f g : Format) (r : ℕ) (bs : List Bool) (h : FrameHeader) → f ≢ g → h .«frame_type» ≡ typeIn f bs → h .quality ≡ qualityIn f bs
-    → h .indication ≡ modeFor g (h .«frame_type») 8 (h .«frame_type») → h .request ≡ modeFor g (h .«frame_type») 9 r
-    → frameWith h (coreIn f (typeIn f bs) bs) ≡ carried g f r (frameIn f bs)
-unfolding frameIn
-header-carried if1 if1 r bs h n t q i m = absurd (n refl)
-header-carried if2 if1 r bs h n t q i m = frame-path _ _ t q (i ∙ ap (λ t. cond (leb t 8) t 0) t) (m ∙ ap (λ t. cond (leb t 9) r 0) t) refl
-header-carried storage if1 r bs h n t q i m = frame-path _ _ t q (i ∙ ap (λ t. cond (leb t 8) t 0) t) (m ∙ ap (λ t. cond (leb t 9) r 0) t) refl
-header-carried f if2 r bs h n t q i m = frame-path _ _ t q i m refl
-header-carried f storage r bs h n t q i m = frame-path _ _ t q i m refl
-
-header-small : (f : Format) (t : ℕ) → headerBits f t ≤ 24
-header-small if1 t = go (leb t 9)
-  where
-    go : (b : Bool) → cond b 24 8 ≤ 24
-    go true = omega arith
-    go false = omega arith
-header-small if2 t = omega arith
-header-small storage t = omega arith
+-- ---- what the code reads and writes
 
 -- the part of the recording that the code reads the frame from
 pub part-is : (s : List ℕ) (at : ℕ) → take (length s - at) (drop at s) ≡ drop at s
 part-is s at = take-all (length s - at) (drop at s) (omega (arith, length-drop at s))
 
--- what the frame at hand gives to the code: d is the part of the recording, h the header that is carried over
 module _ {f g : Format} {r : ℕ} {s d₀ d : List ℕ} {at to : ℕ} (w : Written f g r s d₀ d at to) (l : at < length s) where
-  pub part-known : known (typeIn f (bits (take (length s - at) (drop at s)))) ≡ true
-  part-known = ap (λ p. known (typeIn f (bits p))) (part-is s at) ∙ front-known w l
+  pub part-type : typeIn f (bits (take (length s - at) (drop at s))) ≡ at-front w l .x .type
+  part-type = ap (λ p. typeIn f (bits p)) (part-is s at) ∙ front-type w l
 
-  pub part-octets : octets f (typeIn f (bits (take (length s - at) (drop at s)))) ≤ length (take (length s - at) (drop at s))
-  part-octets =
-      let e : typeIn f (bits (take (length s - at) (drop at s))) ≡ at-front w l .x .type = ap (λ p. typeIn f (bits p)) (part-is s at) ∙ front-type w l in
-      subst (λ t. octets f t ≤ length (take (length s - at) (drop at s))) (sym e) (omega (arith, front-octets w l, length-drop at s, ap length (part-is s at)))
+  -- the frame at hand can be carried over
+  pub part-carriable : f ≢ g → Carriable f g (take (length s - at) (drop at s)) (at-front w l .x) (take (length d - to) (drop to d))
+  part-carriable n =
+      let x = at-front w l .x in
+      let v = at-front w l .valid in
+      record {
+        others = n;
+        begins = record {
+          valid = v;
+          size = length-layout f x v;
+          laid = ap (take (octets f (x .type))) (part-is s at ∙ at-front w l .laid) ∙ take-at (layout f x) (layouts f (at-front w l .zs)) _ (length-layout f x v);
+        };
+        room = omega (arith, front-room w l .0, length-drop to d, ap length (part-is d to));
+      }
 
-  module _ (h : FrameHeader) (n : f ≢ g) (le : r ≤ 8)
-      (e : let p = take (length s - at) (drop at s) in frameWith h (coreIn f (typeIn f (bits p)) (bits p)) ≡ carried g f r (frameIn f (bits p))) where
-    is-carried : frameWith h (coreIn f (typeIn f (bits (drop at s))) (bits (drop at s))) ≡ carried g f r (at-front w l .x)
-    is-carried =
-        subst (λ p. frameWith h (coreIn f (typeIn f (bits p)) (bits p)) ≡ carried g f r (frameIn f (bits p))) (part-is s at) e
-        ∙ ap (carried g f r) (at-front w l .shown)
-
-    pub header-type : h .«frame_type» ≡ at-front w l .x .type
-    header-type = ap (λ y. y .type) is-carried ∙ carried-keeps f g r (at-front w l .x) .type
-
-    pub header-known : known (h .«frame_type») ≡ true
-    header-known = ap known header-type ∙ at-front w l .valid .type-known
-
-    -- it can be written, and what is written is the carried frame
-    pub header-writable : (from : ℕ) → from ≡ headerBits f (h .«frame_type») → Writable g h (take (length s - at) (drop at s)) from (take (length d - to) (drop to d))
-    header-writable from ef =
-        let x = at-front w l .x in
-        let v = at-front w l .valid in
-        let c = carried-modes f g r x n le (known-below (x .type) (v .type-known)) in
-        let tt : h .«frame_type» ≡ at-front w l .x .type = header-type in
-        let oc = sized f (x .type) (v .type-known) .packed in
-        let hb : headerBits f (h .«frame_type») ≡ headerBits f (at-front w l .x .type) = ap (headerBits f) tt in
-        let cb : coreBits (h .«frame_type») ≡ coreBits (at-front w l .x .type) = ap coreBits tt in
-        let og : octets g (h .«frame_type») ≡ octets g (at-front w l .x .type) = ap (octets g) tt in
-        record {
-          type-known = header-known;
-          quality-bit = omega (arith, ap (λ y. y .quality) is-carried, carried-keeps f g r x .quality, v .quality-bit);
-          indication-bits = omega (arith, ap (λ y. y .indication) is-carried, c .0);
-          request-bits = omega (arith, ap (λ y. y .request) is-carried, c .1);
-          core-there = omega (arith, front-octets w l, ap length (part-is s at), length-drop at s);
-          core-near = omega (arith, core-most (x .type) (v .type-known), header-small f (h .«frame_type»));
-          room = omega (arith, front-room w l, length-drop to d, ap length (part-is d to));
-        }
-
-    pub header-layout : (from : ℕ) → from ≡ headerBits f (h .«frame_type»)
-        → layout g (runFrame h (take (length s - at) (drop at s)) from) ≡ layout g (carried g f r (at-front w l .x))
-    header-layout from ef =
-        ap (layout g)
-        (ap₂ (λ b p. frameWith h (take (coreBits (h .«frame_type»)) (drop b (bits p)))) ef (part-is s at)
-        ∙ ap (λ t. frameWith h (coreIn f t (bits (drop at s)))) (header-type ∙ sym (front-type w l)) ∙ is-carried)
-
-    -- the code writes into the part of the buffer from `to` on; q is that part afterwards
-    pub header-written : (q : List ℕ) (from m n : ℕ) → from ≡ headerBits f (h .«frame_type») → m ≡ octets f (h .«frame_type») → n ≡ octets g (h .«frame_type»)
-        → q ≡ layout g (runFrame h (take (length s - at) (drop at s)) from) ++ drop (octets g (h .«frame_type»)) (take (length d - to) (drop to d))
-        → Written f g r s d₀ (take to d ++ (q ++ drop (length d - to) (drop to d))) (at + m) (to + n)
-    header-written q from m n ef em en eq =
-        let p : take (length d - to) (drop to d) ≡ drop to d = part-is d to in
-        let z : drop (length d - to) (drop to d) ≡ [] = drop-of-length-le (drop to d) {i = length d - to} (omega (arith, length-drop to d)) in
-        written-step w l (take to d ++ (q ++ drop (length d - to) (drop to d))) m n (em ∙ ap (octets f) header-type) (en ∙ ap (octets g) header-type)
-        (ap (λ t. take to d ++ t)
-        (ap (λ t. q ++ t) z ∙ append-nil q ∙ eq ∙ ap₂ _++_ (header-layout from ef) (ap₂ drop (sym en) p)))
+  -- the code writes into the part of the buffer from `to` on; q is that part afterwards
+  pub part-written : (q : List ℕ) (t m n : ℕ) → t ≡ at-front w l .x .type → m ≡ octets f t → n ≡ octets g t
+      → q ≡ layout g (carried g f r (at-front w l .x)) ++ drop (octets g (at-front w l .x .type)) (take (length d - to) (drop to d))
+      → Written f g r s d₀ (take to d ++ (q ++ drop (length d - to) (drop to d))) (at + m) (to + n)
+  part-written q t m n et em en eq =
+      let p : take (length d - to) (drop to d) ≡ drop to d = part-is d to in
+      let z : drop (length d - to) (drop to d) ≡ [] = drop-of-length-le (drop to d) {i = length d - to} (omega (arith, length-drop to d)) in
+      let en′ : n ≡ octets g (at-front w l .x .type) = en ∙ ap (octets g) et in
+      written-step w l (take to d ++ (q ++ drop (length d - to) (drop to d))) m n (em ∙ ap (octets f) et) en′
+      (ap (λ t. take to d ++ t)
+      (ap (λ t. q ++ t) z ∙ append-nil q ∙ eq ∙ ap (λ t. layout g (carried g f r (at-front w l .x)) ++ t) (ap₂ drop (sym en′) p)))

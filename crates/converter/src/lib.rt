@@ -1,14 +1,10 @@
-// Converting a recording among the three formats: everything is read, and only then written. `convert` and `convert_length` are entries;
-// `round_trip` has demand 3's claim about round trips as its contract.
+// Converting a recording among the three formats: everything is read, and only then written. `convert` and `convert_length` are entries.
 use frame::Format;
 use frame::FormatFound;
-use frame::FrameHeader;
 use frame::Refusal;
 use frame::format_numbered;
-use frame::table::header_bits;
 use frame::table::octets_of;
-use frame_builder::write_frame;
-use frame_reader::quality_in;
+use frame_carrier::carry_frame;
 use frame_reader::type_in;
 use recording_reader::Counts;
 use recording_reader::FILE_HEADER;
@@ -16,18 +12,15 @@ use recording_reader::LIMIT;
 use recording_reader::header_octets;
 use recording_reader::read_all;
 ghost use mathlib.Core.Path.{_≡_};
-ghost use mathlib.Core.Bool.{true, false, cond};
 ghost use mathlib.Core.Logic.{_≢_};
-ghost use mathlib.Core.List.{List, _++_};
-ghost use Prim.Native.Nat.{ℕ, _<_, _≤_};
-ghost use lib.Dec.{leb};
-ghost use lib.ListN.{length, drop};
-ghost use Rattle.bits.specs.Bits.{bits};
-ghost use Rattle.definitions.specs.Frames.{if1, Frame, known, octets, carriesModes, typeIn, coreIn, frameIn};
+ghost use mathlib.Core.List.{List};
+ghost use Prim.Native.Nat.{ℕ, _≤_};
+ghost use lib.ListN.{length};
+ghost use Rattle.definitions.specs.Frames.{Frame};
 ghost use Rattle.definitions.specs.Reading.{overwritten};
 ghost use Rattle.recordings.specs.Recordings.{fileHeader};
-ghost use Rattle.recordings.specs.Conversion.{carried, converted, conversion, countedAt, convertCall, lengthCall};
-ghost use Rattle.frame.specs.Answers.{formatOf, frameWith};
+ghost use Rattle.recordings.specs.Conversion.{converted, conversion, countedAt, convertCall, lengthCall};
+ghost use Rattle.frame.specs.Answers.{formatOf};
 ghost use Rattle.recording_reader.specs.Answers.{countsOf};
 ghost use Rattle.converter.specs.Output.{IntoBuffer, Convertible, Same};
 
@@ -63,34 +56,6 @@ fn put_file_header(g: Format, out: &mut [u8]) -> usize
     }
 }
 
-// The mode of a frame of type `t` that is carried over to the format `g`: only IF1 has it, up to the type `last`.
-fn mode_for(g: Format, t: u8, last: u8, mode: u8) -> u8
-    ensures { λ m. ⌜ m ≡ cond (carriesModes (formatOf g) 0) (cond (leb t last) mode 0) 0 ⌝ }
-{
-    match g {
-        Format::If1 => { if t <= last { mode } else { 0 } }
-        Format::If2 => 0,
-        Format::Storage => 0,
-    }
-}
-
-// The header of the frame at the start of `s` as it is written in another format.
-fn carried_header(f: Format, g: Format, r: u8, s: &[u8]) -> FrameHeader
-    requires { ⌜ (formatOf f ≢ formatOf g) × (known (typeIn (formatOf f) (bits (now s))) ≡ true) × (octets (formatOf f) (typeIn (formatOf f) (bits (now s))) ≤ length (now s)) ⌝ }
-    ensures { λ h. ⌜ frameWith h (coreIn (formatOf f) (typeIn (formatOf f) (bits (now (s .entry)))) (bits (now (s .entry)))) ≡ carried (formatOf g) (formatOf f) r (frameIn (formatOf f) (bits (now (s .entry)))) ⌝ }
-{
-    let t = type_in(f, s);
-    let quality = quality_in(f, s);
-    let indication = mode_for(g, t, 8, t);
-    let request = mode_for(g, t, 9, r);
-    FrameHeader {
-        frame_type: t,
-        quality,
-        indication,
-        request,
-    }
-}
-
 // Writes the frames of `s` in another format, a frame at a time.
 fn write_frames(f: Format, g: Format, r: u8, s: &[u8], out: &mut [u8])
     requires { ⌜ (formatOf f ≢ formatOf g) × (r ≤ 8) × ((xs : List Frame) × Convertible (formatOf f) (formatOf g) r (now s) xs (now out)) ⌝ }
@@ -100,9 +65,8 @@ fn write_frames(f: Format, g: Format, r: u8, s: &[u8], out: &mut [u8])
     let mut to = put_file_header(g, out);
     while at < s.len() {
         let front = &s[at..];
-        let h = carried_header(f, g, r, front);
-        let t = h.frame_type as usize;
-        write_frame(g, h, front, header_bits(f, t), &mut out[to..]);
+        let t = type_in(f, front) as usize;
+        carry_frame(f, g, r, front, &mut out[to..]);
         at += octets_of(f, t);
         to += octets_of(g, t);
     }

@@ -1,1 +1,1 @@
-mod BuilderLaws
+pub mod BuilderLaws

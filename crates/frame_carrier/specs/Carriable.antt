@@ -1,6 +1,6 @@
 -- What is asked where a frame is carried over to another format, and where its core begins an octet there.
 use mathlib.Core.Path.{_≡_}
-use mathlib.Core.Bool.{Bool, false}
+use mathlib.Core.Bool.{Bool, true, false}
 use mathlib.Core.Logic.{_≢_, _⊎_}
 use mathlib.Core.List.{List, _++_}
 use Prim.Native.Nat.{ℕ, _+_, _-_, _*_, _≤_}
@@ -8,6 +8,11 @@ use lib.ListN.{length, take, drop, replicate}
 use Rattle.bits.specs.Bits.{bits, packs}
 use Rattle.definitions.specs.Frames.{Format, if1, if2, storage, Frame, octets}
 use Rattle.definitions.specs.Claims.{Begins}
+
+abbrev pub isIf2 : Format → Bool
+isIf2 if1 = false
+isIf2 if2 = true
+isIf2 storage = false
 
 -- the first octet that holds nothing but core, of types 0 to 9
 abbrev pub coreAt : Format → ℕ

@@ -8,19 +8,24 @@ use frame_builder::first_octet;
 use frame_reader::quality_in;
 use frame_reader::type_in;
 ghost use mathlib.Core.Path.{_≡_};
-ghost use mathlib.Core.Bool.{Bool, true, false};
+ghost use mathlib.Core.Bool.{Bool, cond};
 ghost use mathlib.Core.Logic.{_≢_};
-ghost use mathlib.Core.List.{List, _++_};
-ghost use Prim.Native.Nat.{ℕ, _+_, _-_, _*_, _<_, _≤_};
-ghost use lib.ListN.{length, take, drop, replicate};
-ghost use Rattle.bits.specs.Bits.{bits, packs, one-if};
-ghost use Rattle.definitions.specs.Frames.{if1, if2, Frame, known, coreBits, octets, layout};
+ghost use mathlib.Core.List.{List, _∷_, _++_};
+ghost use Prim.Native.Nat.{ℕ, _+_, _*_, _<_, _≤_};
+ghost use lib.Dec.{leb};
+ghost use lib.ListN.{length, take, drop};
+ghost use Rattle.bits.specs.Bits.{num, bits, packs, one-if};
+ghost use Rattle.parity.specs.Crc.{crc};
+ghost use Rattle.definitions.specs.Frames.{if2, Frame, classA, octets, coreOctets, layout};
 ghost use Rattle.recordings.specs.Conversion.{carried};
 ghost use Rattle.frame.specs.Answers.{formatOf};
-ghost use Rattle.frame_carrier.specs.Carriable.{coreAt, Shift, Ends, Carriable, CoreMoved};
+ghost use Rattle.frame_carrier.specs.Carriable.{isIf2, coreAt, Shift, Ends, Carriable, CoreMoved};
 
 // The last type that has a core.
 const LAST_CORE: u8 = 9;
+
+// The highest mode.
+const HIGHEST_MODE: u8 = 8;
 
 // The first octet that holds nothing but core.
 fn core_at(f: Format) -> usize
@@ -71,4 +76,73 @@ fn over_whole(f: Format, g: Format, t: usize, src: &[u8], out: &mut [u8])
 {
     let m = (core_bits(t) + 7) / 8;
     bits::copy_whole(src, core_at(f), m, out, core_at(g));
+}
+
+// Whether a format is IF2.
+fn is_if2(f: Format) -> bool
+    ensures { λ r. ⌜ r ≡ isIf2 (formatOf f) ⌝ }
+{
+    match f {
+        Format::If1 => false,
+        Format::If2 => true,
+        Format::Storage => false,
+    }
+}
+
+// Moves the core of a frame of type `t`.
+fn move_core(f: Format, g: Format, t: usize, src: &[u8], out: &mut [u8])
+    requires { ⌜ (t ≤ 9) × ((x : Frame) × (x .type ≡ t) × Carriable (formatOf f) (formatOf g) (now src) x (now out)) ⌝ }
+    ensures { λ _. ⌜ CoreMoved (formatOf f) (formatOf g) t (now (src .entry)) (now (out .entry)) (now (out .exit)) ⌝ }
+{
+    if is_if2(g) {
+        to_if2(f, t, src, out);
+        return;
+    }
+    if is_if2(f) {
+        from_if2(g, t, src, out);
+        return;
+    }
+    over_whole(f, g, t, src, out);
+}
+
+// The mode indication of a frame that comes to IF1: its type, 0 for a SID frame.
+fn indication_of(t: u8) -> u8
+    ensures { λ r. ⌜ r ≡ cond (leb t 8) t 0 ⌝ }
+{
+    if t <= HIGHEST_MODE { t } else { 0 }
+}
+
+// Writes the three header octets of an IF1 frame whose core is there.
+fn put_modes(first: u8, t: u8, r: u8, out: &mut [u8])
+    requires { ⌜ (t ≤ 9) × (r ≤ 8) × (3 + coreOctets t ≤ length (now out)) ⌝ }
+    ensures { λ _. ⌜ now (out .exit) ≡ first ∷ (cond (leb t 8) t 0 * 16 + r) ∷ num 8 (crc (take (classA t) (bits (drop 3 (now (out .entry)))))) ∷ drop 3 (now (out .entry)) ⌝ }
+{
+    let crc = parity::crc_of(&out[3..], class_a(t as usize));
+    out[0] = first;
+    out[1] = indication_of(t) * 16 + r;
+    out[2] = crc;
+}
+
+// Writes the frame that `src` begins with in another format.
+pub fn carry_frame(f: Format, g: Format, r: u8, src: &[u8], out: &mut [u8])
+    requires { ⌜ (r ≤ 8) × ((x : Frame) × Carriable (formatOf f) (formatOf g) (now src) x (now out)) ⌝ }
+    ensures { λ _. ⌜ ((x : Frame) → Carriable (formatOf f) (formatOf g) (now (src .entry)) x (now (out .entry)) → now (out .exit) ≡ layout (formatOf g) (carried (formatOf g) (formatOf f) r x) ++ drop (octets (formatOf g) (x .type)) (now (out .entry))) ⌝ }
+{
+    let t = type_in(f, src);
+    let first = first_octet(g, t, quality_in(f, src));
+    if LAST_CORE < t {
+        out[0] = first;
+        return;
+    }
+    move_core(f, g, t as usize, src, out);
+    match g {
+        Format::If1 => put_modes(first, t, r, out),
+        Format::If2 => {
+            let i = core_at(f);
+            out[0] = first + (src[i] >> 5);
+        }
+        Format::Storage => {
+            out[0] = first;
+        }
+    }
 }

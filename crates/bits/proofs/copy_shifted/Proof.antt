@@ -1,98 +1,100 @@
--- `bits::copy_shifted` meets its contract: each turn stores one octet made of two neighbours, as `octet-turn` says. Assumes nothing.
+-- `bits::copy_shifted` meets its contract: each turn copies a group of 16 octets, the last of which ends the run; fewer are copied one by one.
+-- Assumes nothing.
 use borrow.Author.Needs.{needs}
-use mathlib.Core.Path.{_≡_, refl, sym, ap, _∙_}
-use Prim.Native.Nat.{ℕ, _+_, _*_, _-_, _/_, _%_, _≤_, _<_, _^_}
+use mathlib.Core.Path.{_≡_, refl, _∙_}
+use Prim.Native.Nat.{_+_, _*_, _-_, _%_, _≤_}
 use native.Mathlib.Omega.{arith}
-use mathlib.Core.List.{List}
-use lib.ListN.{length, getD, drop, length-set}
-use Rattle.bits.specs.Bits.{bits, num, copied, Octets}
-use Rattle.bits.proofs.BitLaws.{copied-zero, window-field}
-use Rattle.bits.proofs.Masks.{octet-turn, shifted-is}
-use lib.Bits.{bitOr}
-use native.Mathlib.Numerals.{add-one}
+use lib.ListN.{length}
+use lib.Bits.{bitAnd, and-mask}
+use Rattle.bits.proofs.Groups.{Groups, first-group, next-group, all-groups}
 use Rattle.bits.proofs.copy_shifted.Statement.{statement}
 use Rattle.bits.proofs.copy_shifted.Tie as tie
 
 abbrev Inv-loop : tie.InvT-loop
-Inv-loop src i a m dst₀ j t₀ dst t = (t ≤ m) × (length dst ≡ length dst₀) × (bits dst ≡ copied (bits dst₀) (8 * j) (drop (8 * i + a) (bits src)) (8 * t))
+Inv-loop src i a m dst₀ j t₀ dst t = (t ≤ m) × ((m - t) % 16 ≡ 0) × (length dst ≡ length dst₀) × Groups src dst₀ (8 * i + a) j m t dst
 
 abbrev μ-loop : tie.MeasureT-loop
 μ-loop src i a m dst₀ j t₀ dst t = m - t
 
-loop-holds : tie.Need-loop-holds Inv-loop μ-loop
-loop-holds c = (search needs, refl, sym (copied-zero (bits (c .args .dst .now)) (8 * c .args .j) (drop (8 * c .args .i + c .args .a) (bits (c .args .src .now)))))
-
-add-hi : tie.Need-add-hi Inv-loop μ-loop
-add-hi c = omega arith
-
-shared-slice-read-hi : tie.Need-shared-slice-read-hi Inv-loop μ-loop
-shared-slice-read-hi c = omega arith
-
-add-lo : tie.Need-add-lo Inv-loop μ-loop
-add-lo c = omega arith
-
-add-lo-2 : tie.Need-add-lo-2 Inv-loop μ-loop
-add-lo-2 c = omega arith
-
-shared-slice-read-lo : tie.Need-shared-slice-read-lo Inv-loop μ-loop
-shared-slice-read-lo c = omega arith
-
-cast-dst : tie.Need-cast-dst Inv-loop μ-loop
-cast-dst c = omega arith
-
-shl-dst : tie.Need-shl-dst Inv-loop μ-loop
-shl-dst c = omega arith
-
-sub-dst : tie.Need-sub-dst Inv-loop μ-loop
-sub-dst c = omega arith
-
-cast-dst-2 : tie.Need-cast-dst-2 Inv-loop μ-loop
-cast-dst-2 c = omega arith
-
-shr-dst : tie.Need-shr-dst Inv-loop μ-loop
-shr-dst c = omega arith
-
-add-dst : tie.Need-add-dst Inv-loop μ-loop
-add-dst c = omega arith
-
-slice-write-dst : tie.Need-slice-write-dst Inv-loop μ-loop
-slice-write-dst c = omega arith
-
-add-t : tie.Need-add-t Inv-loop μ-loop
-add-t c = omega arith
-
-loop-less : tie.Need-loop-less Inv-loop μ-loop
-loop-less c = omega arith
-
--- what a turn stores
-octet-is : (s : List ℕ) (i a t : ℕ) → Octets s → a < 8 → i + t < length s
-    → bitOr (getD s (i + t) 0 * 2 ^ a % 2 ^ 8) (getD s (i + t + 1) 0 / 2 ^ (8 - a)) ≡ num 8 (drop (8 * i + a + 8 * t) (bits s))
-octet-is s i a t o ha h =
-    let at : 8 * (i + t) + a ≡ 8 * i + a + 8 * t = omega arith in
-    shifted-is a (8 - a) (getD s (i + t) 0) (getD s (i + t + 1) 0) (omega arith) (o (i + t + 1))
-    ∙ ap (λ (n : ℕ). (getD s (i + t) 0 * 2 ^ 8 + getD s n 0) / 2 ^ (8 - a) % 2 ^ 8) (add-one (i + t))
-    ∙ sym (window-field (i + t) a 8 (8 - a) s o h (omega arith) (omega arith))
-    ∙ ap (λ (n : ℕ). num 8 (drop n (bits s))) at
-
-loop-again : tie.Need-loop-again Inv-loop μ-loop
-loop-again c =
-    let start = c .before .before .before .before in
-    let a = start .args in
-    let l = c .before .before .before .loop in (
-      omega arith,
-      length-set (l .dst) _ _ ∙ l .inv .1,
-      octet-turn (a .src .now) (a .dst .now) (l .dst) (8 * a .i + a .a) (a .j) (a .m) (l .t) _ (c .before .before .loop-test .taken) (omega arith) (start .pre .3) (l .inv .1)
-          (octet-is (a .src .now) (a .i) (a .a) (l .t) (λ k. c .shared-slice-known2 .given k .fits) (start .pre .1) (omega arith)) (l .inv .2),
-    )
+each-shifted-requires : tie.Need-each-shifted-requires Inv-loop μ-loop
+each-shifted-requires c κs =
+    search needs
 
 same-length : tie.Need-same-length Inv-loop μ-loop
-same-length c = c .before .loop .inv .1
+same-length c =
+    search needs
 
 returns : tie.Need-returns Inv-loop μ-loop
 returns c =
-    let a = c .before .before .args in
-    let e : 8 * c .before .loop .t ≡ 8 * c .before .before .args .m = omega arith in
-    c .before .loop .inv .2 ∙ ap (copied (bits (a .dst .now)) (8 * a .j) (drop (8 * a .i + a .a) (bits (a .src .now)))) e
+    search needs
+
+group-shifted-requires : tie.Need-group-shifted-requires Inv-loop μ-loop
+group-shifted-requires c κs =
+    search needs
+
+sub-t : tie.Need-sub-t Inv-loop μ-loop
+sub-t c =
+    search needs
+
+add-t : tie.Need-add-t Inv-loop μ-loop
+add-t c =
+    omega (arith, and-mask (c .before .before .before .before .before .before .before .args .m - 1) 4)
+
+loop-holds : tie.Need-loop-holds Inv-loop μ-loop
+loop-holds c =
+    let start = c .before .before .before .before .before .before .before in
+    let a = start .args in
+    let d = c .before .before .group-shifted .last in
+    let e : bitAnd (start .args .m - 1) 15 ≡ (start .args .m - 1) % 16 = and-mask (a .m - 1) 4 in (
+      omega arith,
+      omega arith,
+      refl,
+      first-group (a .src .now) (a .dst .now) _ (8 * a .i + a .a) (a .j) (a .m) (omega arith) (omega arith) (omega arith) (c .before .before .group-shifted .kept .1 .1 .1 .0) _ (omega arith) (c .before .before .group-shifted .ensures),
+    )
+
+add-group-shifted : tie.Need-add-group-shifted Inv-loop μ-loop
+add-group-shifted c =
+    omega arith
+
+add-group-shifted-2 : tie.Need-add-group-shifted-2 Inv-loop μ-loop
+add-group-shifted-2 c =
+    omega arith
+
+group-shifted-requires-2 : tie.Need-group-shifted-requires-2 Inv-loop μ-loop
+group-shifted-requires-2 c κs =
+    search needs
+
+add-t-2 : tie.Need-add-t-2 Inv-loop μ-loop
+add-t-2 c =
+    search needs
+
+loop-less : tie.Need-loop-less Inv-loop μ-loop
+loop-less c =
+    omega arith
+
+loop-again : tie.Need-loop-again Inv-loop μ-loop
+loop-again c =
+    let a = c .before .before .before .before .before .before .before .before .before .before .before .before .before .args in
+    let l = c .before .before .before .before .before .loop in
+    let more = c .before .before .group-shifted2 in (
+      omega arith,
+      omega arith,
+      more .kept .1 .1 .1 .0 ∙ l .inv .2,
+      next-group (a .src .now) (a .dst .now) _ (8 * a .i + a .a) (a .j) (a .m) (omega arith) (omega arith) (omega arith) (c .before .before .before .before .before .before .before .before .group-shifted .kept .1 .1 .1 .0)
+          (l .dst) _ (l .t) (8 * (a .i + l .t) + a .a) (omega arith) (omega arith) (l .inv .2) (l .inv .3) (more .ensures),
+    )
+
+same-length-2 : tie.Need-same-length-2 Inv-loop μ-loop
+same-length-2 c =
+    search needs
+
+returns-2 : tie.Need-returns-2 Inv-loop μ-loop
+returns-2 c =
+    let a = c .before .before .before .before .before .before .before .before .before .args in
+    let first = c .before .before .before .before .group-shifted in
+    let l = c .before .loop in
+    all-groups (a .src .now) (a .dst .now) _ (8 * a .i + a .a) (a .j) (a .m) (omega arith) (omega arith) (omega arith) (first .kept .1 .1 .1 .0)
+    (l .dst) (l .t) (omega arith) (first .ensures) (l .inv .3)
 
 pub copy-shifted-spec : {M : Type 1} → statement M
 copy-shifted-spec =
@@ -100,21 +102,18 @@ copy-shifted-spec =
     (tie.spec
     Inv-loop
     μ-loop
-    loop-holds
-    add-hi
-    shared-slice-read-hi
-    add-lo
-    add-lo-2
-    shared-slice-read-lo
-    cast-dst
-    shl-dst
-    sub-dst
-    cast-dst-2
-    shr-dst
-    add-dst
-    slice-write-dst
+    each-shifted-requires
+    same-length
+    returns
+    group-shifted-requires
+    sub-t
     add-t
+    loop-holds
+    add-group-shifted
+    add-group-shifted-2
+    group-shifted-requires-2
+    add-t-2
     loop-less
     loop-again
-    same-length
-    returns)
+    same-length-2
+    returns-2)
