@@ -115,7 +115,8 @@ fn group_shifted(src: &[u8], i: usize, a: usize, dst: &mut [u8], j: usize)
     each_whole(&group, 0, 16, dst, j);
 }
 
-// Copies `m` whole octets from octet `i` of `src` to octet `j` of `dst`, by groups of 16. The second group may begin within the first.
+// Copies `m` whole octets from octet `i` of `src` to octet `j` of `dst`, by groups of 16. The second group may begin within the first. For
+// the conversion; `put_run` does not call it, so that the compiler makes it part of its one caller.
 pub fn copy_whole(src: &[u8], i: usize, m: usize, dst: &mut [u8], j: usize)
     requires { ⌜ (i + m ≤ length (now src)) × (j + m ≤ length (now dst)) ⌝ }
     ensures { λ _. ⌜ bits (now (dst .exit)) ≡ copied (bits (now (dst .entry))) (8 * j) (drop (8 * i) (bits (now (src .entry)))) (8 * m) ⌝ }
@@ -157,9 +158,9 @@ fn copy_octets(src: &[u8], from: usize, m: usize, dst: &mut [u8], j: usize)
     let i = from >> 3;
     let a = from & 7;
     if a == 0 {
-        copy_whole(src, i, m, dst, j);
+        each_whole(src, i, m, dst, j);
     } else {
-        copy_shifted(src, i, a, m, dst, j);
+        each_shifted(src, i, a, m, dst, j);
     }
 }
 

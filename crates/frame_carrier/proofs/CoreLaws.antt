@@ -1,7 +1,7 @@
 -- The sizes of a core in each format, and where the source's bits are the core and its zeros. Assumes nothing.
 use mathlib.Core.Path.{_≡_, refl, sym, ap, ap₂, _∙_, subst}
 use mathlib.Core.Bool.{Bool, true, false, _&&_}
-use mathlib.Core.Logic.{_≢_}
+use mathlib.Core.Logic.{_≢_, inl, inr}
 use mathlib.Core.List.{List, _++_}
 use Prim.Native.Nat.{ℕ, suc, _+_, _-_, _*_, _/_, _<_, _≤_}
 use native.Mathlib.Omega.{arith}
@@ -16,7 +16,7 @@ use Rattle.definitions.specs.Frames.{Format, if1, if2, storage, Frame, known, c
 use Rattle.definitions.specs.Claims.{Begins}
 use Rattle.definitions.proofs.Tables.{sized}
 use Rattle.frame.proofs.TableLaws.{room}
-use Rattle.frame_carrier.specs.Carriable.{coreAt, behind, Ends, Carriable}
+use Rattle.frame_carrier.specs.Carriable.{coreAt, behind, Ends, Moves, Carriable}
 use Rattle.frame_carrier.proofs.PackLaws.{packs-padded, copied-octets}
 use Rattle.frame_carrier.proofs.CarryLaws.{source-core}
 
@@ -167,61 +167,47 @@ module _ (t k n : ℕ) (h : t ≤ 9) (ek : k ≡ coreBits t) (en : n ≡ octets 
       let s = sizes t h in
       count-down ((k + 7) / 8) n (some-octet .0) (omega (arith, core-octets, s .in-if2)) (omega (arith, core-octets, s .most-if2)) ∙ core-octets
 
-  module _ (f : Format) (i : ℕ) (src out : List ℕ) (x : Frame) (ei : i ≡ coreAt f) (ex : x .type ≡ t) (c : Carriable f if2 src x out) where
-    at-most : coreAt f + coreOctets t ≤ length src
-    at-most = omega (arith, aligned-header f t (c .others) h .1, source-long f if2 t src out x h ex c)
+  -- to IF2
+  pub moves-up : (f g : Format) (i : ℕ) → f ≢ g → g ≡ if2 → i ≡ coreAt f → Moves f g t i 3 ((k + 7) / 8 - 1) (ltb ((k + 7) / 8) n) 1
+  moves-up f g i o eg ei =
+      let s = sizes t h in
+      let b = core-at-most f in
+      let nf : f ≢ if2 = λ e. o (e ∙ sym eg) in
+      let a = aligned-header f t nf h in
+      subst (λ g. Moves f g t i 3 ((k + 7) / 8 - 1) (ltb ((k + 7) / 8) n) 1) (sym eg) (record {
+        shift = inl refl;
+        start = refl;
+        count = omega (arith, up, s .some, s .in-if2);
+        inside = omega (arith, core-octets, a .1, s .some);
+        near = (omega (arith, core-octets, s .few, b), omega (arith, core-octets, s .few));
+        ends = λ src out x ex c. (
+          fillBits f t,
+          after f if2 t src out x h ex c,
+          subst (λ q. Ends src q 3 ((k + 7) / 8 - 1) (drop 3 (x .core)) (fillBits f t) (after f if2 t src out x h ex c)) (sym ei)
+              (subst (λ q. Ends src (coreAt f) 3 (q - 1) (drop 3 (x .core)) (fillBits f t) (after f if2 t src out x h ex c)) (sym core-octets) (whole-ends f if2 t src out x h ex c nf)),
+        );
+      })
 
-    pub up-asks : (i + ((k + 7) / 8 - 1) < length src) × (1 + ((k + 7) / 8 - 1) + one-if (ltb ((k + 7) / 8) n) ≤ length out)
-        × (1 + ((k + 7) / 8 - 1) < 65536) × (i + ((k + 7) / 8 - 1) < 65536)
-    up-asks =
-        let s = sizes t h in
-        let b = core-at-most f in (
-          omega (arith, at-most, core-octets, s .some),
-          omega (arith, up, room-there f if2 t src out x h ex c, s .some, s .in-if2),
-          omega (arith, core-octets, s .few),
-          omega (arith, core-octets, s .few, b),
-        )
-
-    pub up-gives : (d : List ℕ)
-        → ((w : List Bool) (z : ℕ) (r : List Bool) → Ends src i 3 ((k + 7) / 8 - 1) w z r
-        → d ≡ take 1 out ++ (packs ((k + 7) / 8 - 1 + one-if (ltb ((k + 7) / 8) n)) w ++ drop (1 + ((k + 7) / 8 - 1 + one-if (ltb ((k + 7) / 8) n))) out))
-        → d ≡ take 1 out ++ (packs (octets if2 t - 1) (drop 3 (x .core)) ++ drop (octets if2 t) out)
-    up-gives d e =
-        let s = sizes t h in
-        let w = drop 3 (x .core) in
-        let o : 1 + (octets if2 t - 1) ≡ octets if2 t = omega (arith, s .some, s .in-if2) in
-        let ends : Ends src i 3 ((k + 7) / 8 - 1) (drop 3 (x .core)) (fillBits f t) (after f if2 t src out x h ex c) =
-        subst (λ q. Ends src q 3 ((k + 7) / 8 - 1) w (fillBits f t) (after f if2 t src out x h ex c)) (sym ei)
-        (subst (λ q. Ends src (coreAt f) 3 (q - 1) w (fillBits f t) (after f if2 t src out x h ex c)) (sym core-octets) (whole-ends f if2 t src out x h ex c (c .others))) in
-        e w _ _ ends
-        ∙ ap (λ q. take 1 out ++ (packs q w ++ drop (1 + q) out)) up ∙ ap (λ q. take 1 out ++ (packs (octets if2 t - 1) w ++ drop q out)) o
-
-  module _ (g : Format) (j : ℕ) (src out : List ℕ) (x : Frame) (ej : j ≡ coreAt g) (ex : x .type ≡ t) (c : Carriable if2 g src x out) where
-    others : g ≢ if2
-    others e = c .others (sym e)
-
-    pub down-asks : (0 + (n - 1) < length src) × (j + (n - 1) + one-if (leb n ((k + 7) / 8)) ≤ length out) × (j + (n - 1) < 65536) × (0 + (n - 1) < 65536)
-    down-asks =
-        let s = sizes t h in
-        let b = core-at-most g in (
-          omega (arith, source-long if2 g t src out x h ex c, s .some, s .in-if2),
-          omega (arith, down, room-there if2 g t src out x h ex c, aligned-header g t others h .1),
-          omega (arith, s .most-if2, s .few, b),
-          omega (arith, s .most-if2, s .few),
-        )
-
-    pub down-gives : (d : List ℕ)
-        → ((w : List Bool) (z : ℕ) (r : List Bool) → Ends src 0 5 (n - 1) w z r
-        → d ≡ take j out ++ (packs (n - 1 + one-if (leb n ((k + 7) / 8))) w ++ drop (j + (n - 1 + one-if (leb n ((k + 7) / 8)))) out))
-        → d ≡ take (coreAt g) out ++ (packs (octets g t - coreAt g) (behind g (x .core)) ++ drop (octets g t) out)
-    down-gives d e =
-        let w = x .core in
-        let a = aligned-header g t others h .1 in
-        let p : coreOctets t ≡ octets g t - coreAt g = omega (arith, a) in
-        e w _ _ (subst (λ q. Ends src 0 5 (q - 1) w (fillBits if2 t) (after if2 g t src out x h ex c)) (sym en) (if2-ends g t src out x h ex c))
-        ∙ ap₂ (λ q b. take b out ++ (packs q w ++ drop (b + q) out)) down ej
-        ∙ ap₂ (λ q b. take (coreAt g) out ++ (packs q w ++ drop b out)) p (sym a)
-        ∙ ap (λ w. take (coreAt g) out ++ (packs (octets g t - coreAt g) w ++ drop (octets g t) out)) (sym (behind-whole g w others))
+  -- from IF2
+  pub moves-down : (f g : Format) (j : ℕ) → f ≢ g → f ≡ if2 → j ≡ coreAt g → Moves f g t 0 5 (n - 1) (leb n ((k + 7) / 8)) j
+  moves-down f g j o ef ej =
+      let s = sizes t h in
+      let b = core-at-most g in
+      let ng : g ≢ if2 = λ e. o (ef ∙ sym e) in
+      let a = aligned-header g t ng h in
+      subst (λ f. Moves f g t 0 5 (n - 1) (leb n ((k + 7) / 8)) j) (sym ef) (record {
+        shift = inr refl;
+        start = ej;
+        count = omega (arith, down, a .1, ej);
+        inside = omega (arith, some-octet .1, en);
+        near = (omega (arith, s .most-if2, s .few, en), omega (arith, s .most-if2, s .few, b, en, ej));
+        ends = λ src out x ex c. (
+          fillBits if2 t,
+          after if2 g t src out x h ex c,
+          subst (λ w. Ends src 0 5 (n - 1) w (fillBits if2 t) (after if2 g t src out x h ex c)) (sym (behind-whole g (x .core) ng))
+              (subst (λ q. Ends src 0 5 (q - 1) (x .core) (fillBits if2 t) (after if2 g t src out x h ex c)) (sym en) (if2-ends g t src out x h ex c)),
+        );
+      })
 
   module _ (f g : Format) (i j : ℕ) (src out : List ℕ) (x : Frame) (nf : f ≢ if2) (ng : g ≢ if2) (ei : i ≡ coreAt f) (ej : j ≡ coreAt g) (ex : x .type ≡ t)
       (c : Carriable f g src x out) where
@@ -249,3 +235,25 @@ module _ (t k n : ℕ) (h : t ≤ 9) (ek : k ≡ coreBits t) (en : n ≡ octets 
         ∙ ap (λ b. take b out ++ (packs (coreOctets t) w ++ drop (b + coreOctets t) out)) ej
         ∙ ap₂ (λ q b. take (coreAt g) out ++ (packs q w ++ drop b out)) p (sym a)
         ∙ ap (λ w. take (coreAt g) out ++ (packs (octets g t - coreAt g) w ++ drop (octets g t) out)) (sym (behind-whole g w ng))
+
+-- ---- what a move asks and gives
+
+module _ (f g : Format) (t i a c : ℕ) (last : Bool) (j : ℕ) (h : t ≤ 9) (m : Moves f g t i a c last j) (src out : List ℕ) (x : Frame) (ex : x .type ≡ t) (v : Carriable f g src x out) where
+  pub shifted-asks : (i + c < length src) × (j + c + one-if last ≤ length out) × (j + c < 65536) × (i + c < 65536)
+  shifted-asks = (
+    omega (arith, m .inside, source-long f g t src out x h ex v),
+    omega (arith, m .count, room-there f g t src out x h ex v),
+    m .near .1,
+    m .near .0,
+  )
+
+  pub shifted-gives : (d : List ℕ)
+      → ((w : List Bool) (z : ℕ) (r : List Bool) → Ends src i a c w z r → d ≡ take j out ++ (packs (c + one-if last) w ++ drop (j + (c + one-if last)) out))
+      → d ≡ take (coreAt g) out ++ (packs (octets g t - coreAt g) (behind g (x .core)) ++ drop (octets g t) out)
+  shifted-gives d e =
+      let q = m .ends src out x ex v in
+      let w = behind g (x .core) in
+      let p : c + one-if last ≡ octets g t - coreAt g = omega (arith, m .count, m .start) in
+      e w (q .0) (q .1) (q .2)
+      ∙ ap₂ (λ b o. take b out ++ (packs (c + one-if last) w ++ drop o out)) (m .start) (m .count)
+      ∙ ap (λ k. take (coreAt g) out ++ (packs k w ++ drop (octets g t) out)) p

@@ -3,9 +3,9 @@ use mathlib.Core.Path.{_≡_}
 use mathlib.Core.Bool.{Bool, true, false}
 use mathlib.Core.Logic.{_≢_, _⊎_}
 use mathlib.Core.List.{List, _++_}
-use Prim.Native.Nat.{ℕ, _+_, _-_, _*_, _≤_}
+use Prim.Native.Nat.{ℕ, _+_, _-_, _*_, _<_, _≤_}
 use lib.ListN.{length, take, drop, replicate}
-use Rattle.bits.specs.Bits.{bits, packs}
+use Rattle.bits.specs.Bits.{one-if, bits, packs}
 use Rattle.definitions.specs.Frames.{Format, if1, if2, storage, Frame, octets}
 use Rattle.definitions.specs.Claims.{Begins}
 
@@ -46,3 +46,12 @@ abbrev pub CoreMoved : (f g : Format) → ℕ → (src out₀ out : List ℕ) �
 CoreMoved f g t src out₀ out =
     (x : Frame) → x .type ≡ t → Carriable f g src x out₀
     → out ≡ take (coreAt g) out₀ ++ (packs (octets g t - coreAt g) (behind g (x .core)) ++ drop (octets g t) out₀)
+
+-- how a core of type t is moved to IF2 or from it: c octets from bit a of the source's octet i on, and one more where last is so, to octet j
+pub record Moves (f g : Format) (t i a c : ℕ) (last : Bool) (j : ℕ) : Type 0 where
+  pub shift : Shift a
+  pub start : j ≡ coreAt g
+  pub count : j + (c + one-if last) ≡ octets g t
+  pub inside : i + c < octets f t
+  pub near : (i + c < 65536) × (j + c < 65536)
+  pub ends : (src out : List ℕ) (x : Frame) → x .type ≡ t → Carriable f g src x out → (z : ℕ) × (r : List Bool) × Ends src i a c (behind g (x .core)) z r

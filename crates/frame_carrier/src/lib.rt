@@ -8,7 +8,7 @@ use frame_builder::first_octet;
 use frame_reader::quality_in;
 use frame_reader::type_in;
 ghost use mathlib.Core.Path.{_≡_};
-ghost use mathlib.Core.Bool.{Bool, cond};
+ghost use mathlib.Core.Bool.{Bool, false, not, _&&_, cond};
 ghost use mathlib.Core.Logic.{_≢_};
 ghost use mathlib.Core.List.{List, _∷_, _++_};
 ghost use Prim.Native.Nat.{ℕ, _+_, _*_, _<_, _≤_};
@@ -19,7 +19,7 @@ ghost use Rattle.parity.specs.Crc.{crc};
 ghost use Rattle.definitions.specs.Frames.{if2, Frame, classA, octets, coreOctets, layout};
 ghost use Rattle.recordings.specs.Conversion.{carried};
 ghost use Rattle.frame.specs.Answers.{formatOf};
-ghost use Rattle.frame_carrier.specs.Carriable.{isIf2, coreAt, Shift, Ends, Carriable, CoreMoved};
+ghost use Rattle.frame_carrier.specs.Carriable.{isIf2, coreAt, Shift, Ends, Moves, Carriable, CoreMoved};
 
 // The last type that has a core.
 const LAST_CORE: u8 = 9;
@@ -49,35 +49,6 @@ fn move_shifted(src: &[u8], i: usize, a: usize, c: usize, last: bool, out: &mut 
     }
 }
 
-// Moves the core of a frame of IF1 or storage format to IF2.
-fn to_if2(f: Format, t: usize, src: &[u8], out: &mut [u8])
-    requires { ⌜ (t ≤ 9) × ((x : Frame) × (x .type ≡ t) × Carriable (formatOf f) if2 (now src) x (now out)) ⌝ }
-    ensures { λ _. ⌜ CoreMoved (formatOf f) if2 t (now (src .entry)) (now (out .entry)) (now (out .exit)) ⌝ }
-{
-    let m = (core_bits(t) + 7) / 8;
-    let n = octets_of(Format::If2, t);
-    move_shifted(src, core_at(f), 3, m - 1, m < n, out, 1);
-}
-
-// Moves the core of an IF2 frame to IF1 or storage format.
-fn from_if2(g: Format, t: usize, src: &[u8], out: &mut [u8])
-    requires { ⌜ (t ≤ 9) × ((x : Frame) × (x .type ≡ t) × Carriable if2 (formatOf g) (now src) x (now out)) ⌝ }
-    ensures { λ _. ⌜ CoreMoved if2 (formatOf g) t (now (src .entry)) (now (out .entry)) (now (out .exit)) ⌝ }
-{
-    let m = (core_bits(t) + 7) / 8;
-    let n = octets_of(Format::If2, t);
-    move_shifted(src, 0, 5, n - 1, n <= m, out, core_at(g));
-}
-
-// Moves the core of a frame between IF1 and storage format.
-fn over_whole(f: Format, g: Format, t: usize, src: &[u8], out: &mut [u8])
-    requires { ⌜ (t ≤ 9) × (formatOf f ≢ if2) × (formatOf g ≢ if2) × ((x : Frame) × (x .type ≡ t) × Carriable (formatOf f) (formatOf g) (now src) x (now out)) ⌝ }
-    ensures { λ _. ⌜ CoreMoved (formatOf f) (formatOf g) t (now (src .entry)) (now (out .entry)) (now (out .exit)) ⌝ }
-{
-    let m = (core_bits(t) + 7) / 8;
-    bits::copy_whole(src, core_at(f), m, out, core_at(g));
-}
-
 // Whether a format is IF2.
 fn is_if2(f: Format) -> bool
     ensures { λ r. ⌜ r ≡ isIf2 (formatOf f) ⌝ }
@@ -89,20 +60,80 @@ fn is_if2(f: Format) -> bool
     }
 }
 
+// How a core is moved to IF2 or from it: from which octet and bit, how many octets, whether one more is what is left of the source's last,
+// and to which octet.
+struct Move {
+    from: usize,
+    shift: usize,
+    count: usize,
+    last: bool,
+    to: usize,
+}
+
+fn plan(f: Format, g: Format, t: usize) -> Move
+    requires { ⌜ (t ≤ 9) × (formatOf f ≢ formatOf g) × (isIf2 (formatOf g) ≡ false → formatOf f ≡ if2) ⌝ }
+    ensures { λ p. ⌜ Moves (formatOf f) (formatOf g) t (p .from) (p .shift) (p .count) (p .last) (p .to) ⌝ }
+{
+    let m = (core_bits(t) + 7) / 8;
+    let n = octets_of(Format::If2, t);
+    if is_if2(g) {
+        let from = core_at(f);
+        return Move {
+            from,
+            shift: 3,
+            count: m - 1,
+            last: m < n,
+            to: 1,
+        };
+    }
+    let to = core_at(g);
+    Move {
+        from: 0,
+        shift: 5,
+        count: n - 1,
+        last: n <= m,
+        to,
+    }
+}
+
+// Moves the core of a frame to IF2 or from it.
+fn over_shifted(f: Format, g: Format, t: usize, src: &[u8], out: &mut [u8])
+    requires { ⌜ (t ≤ 9) × (isIf2 (formatOf g) ≡ false → formatOf f ≡ if2) × ((x : Frame) × (x .type ≡ t) × Carriable (formatOf f) (formatOf g) (now src) x (now out)) ⌝ }
+    ensures { λ _. ⌜ CoreMoved (formatOf f) (formatOf g) t (now (src .entry)) (now (out .entry)) (now (out .exit)) ⌝ }
+{
+    let p = plan(f, g, t);
+    move_shifted(src, p.from, p.shift, p.count, p.last, out, p.to);
+}
+
+// Moves the core of a frame between IF1 and storage format.
+fn over_whole(f: Format, g: Format, t: usize, src: &[u8], out: &mut [u8])
+    requires { ⌜ (t ≤ 9) × (formatOf f ≢ if2) × (formatOf g ≢ if2) × ((x : Frame) × (x .type ≡ t) × Carriable (formatOf f) (formatOf g) (now src) x (now out)) ⌝ }
+    ensures { λ _. ⌜ CoreMoved (formatOf f) (formatOf g) t (now (src .entry)) (now (out .entry)) (now (out .exit)) ⌝ }
+{
+    let m = (core_bits(t) + 7) / 8;
+    bits::copy_whole(src, core_at(f), m, out, core_at(g));
+}
+
+// Neither format is IF2.
+fn both_whole(f: Format, g: Format) -> bool
+    ensures { λ r. ⌜ r ≡ (not (isIf2 (formatOf f)) && not (isIf2 (formatOf g))) ⌝ }
+{
+    if is_if2(f) {
+        return false;
+    }
+    !is_if2(g)
+}
+
 // Moves the core of a frame of type `t`.
 fn move_core(f: Format, g: Format, t: usize, src: &[u8], out: &mut [u8])
     requires { ⌜ (t ≤ 9) × ((x : Frame) × (x .type ≡ t) × Carriable (formatOf f) (formatOf g) (now src) x (now out)) ⌝ }
     ensures { λ _. ⌜ CoreMoved (formatOf f) (formatOf g) t (now (src .entry)) (now (out .entry)) (now (out .exit)) ⌝ }
 {
-    if is_if2(g) {
-        to_if2(f, t, src, out);
-        return;
+    if both_whole(f, g) {
+        over_whole(f, g, t, src, out);
+    } else {
+        over_shifted(f, g, t, src, out);
     }
-    if is_if2(f) {
-        from_if2(g, t, src, out);
-        return;
-    }
-    over_whole(f, g, t, src, out);
 }
 
 // The mode indication of a frame that comes to IF1: its type, 0 for a SID frame.

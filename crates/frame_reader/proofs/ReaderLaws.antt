@@ -8,7 +8,7 @@ use lib.Dec.{eqb, leb}
 use lib.Bits.{bitAnd, and-mask}
 use lib.ListN.{length, take, drop, getD, length-drop}
 use lib.Seq.{drop-drop, take-take, take-all}
-use borrow.Author.Tests.{le-leb, lt-leb, eq-eqb, ne-eqb}
+use borrow.Author.Tests.{le-leb, lt-leb, eqb-true}
 use Rattle.bits.specs.Bits.{num, bits, clear}
 use Rattle.bits.proofs.BitLaws.{num-within, bits-drop, octet-field}
 use Rattle.bits.proofs.Tests.{every-below}
@@ -199,7 +199,14 @@ module _ (f : Format) (s : List ℕ) (n : ℕ) (p : Plain f s n) where
 
   plain-fields : fieldsGood f (frameIn f (bits s)) ≡ true
   unfolding fieldsGood frameIn
-  plain-fields = rw (p .no-modes, ne-eqb (typeIn f (bits s)) 9 (p .no-sid))
+  plain-fields = rw (p .no-modes) (go (eqb (typeIn f (bits s)) 9) refl)
+    where
+      m : ℕ
+      m = num 4 (drop 36 (coreIn f (typeIn f (bits s)) (bits s)))
+
+      go : (b : Bool) → eqb (typeIn f (bits s)) 9 ≡ b → ((not b || leb (num 4 (drop 36 (coreIn f (typeIn f (bits s)) (bits s)))) 8) && true) ≡ true
+      go true e = rw (le-leb _ 8 (p .sid (eqb-true _ _ e)))
+      go false e = refl
 
   plain-crc : crcGood f (bits s) ≡ true
   plain-crc = sym (no-crc f s (typeIn f (bits s)) refl (p .no-modes))

@@ -37,6 +37,9 @@ const SID: usize = 9;
 
 const SID_MODE_AT: usize = 36;
 
+// The highest mode.
+const HIGHEST_MODE: u8 = 8;
+
 // The type that the first octet names.
 pub fn type_in(f: Format, s: &[u8]) -> u8
     requires { ⌜ 0 < length (now s) ⌝ }
@@ -197,8 +200,18 @@ fn judge(single: bool, f: Format, s: &[u8]) -> Reading
     Reading::Frame(h, n)
 }
 
-// The octets of a frame that only its length, its spare and its filling bits could refuse: it carries no modes and is no SID frame. 0 where
-// it is another, or refused.
+// Of a SID frame the mode is at most 8.
+fn sid_fine(f: Format, s: &[u8], t: usize) -> bool
+    requires { ⌜ octets (formatOf f) t ≤ length (now s) ⌝ }
+    ensures { λ r. ⌜ (r ≡ true → t ≡ 9 → num 4 (drop 36 (coreIn (formatOf f) t (bits (now (s .entry))))) ≤ 8) ⌝ }
+{
+    if t != SID {
+        return true;
+    }
+    sid_mode(f, s) <= HIGHEST_MODE
+}
+
+// The octets of a valid frame that carries no modes. 0 where it carries them, or is refused.
 fn plain_octets(f: Format, s: &[u8]) -> usize
     ensures { λ n. ⌜ (0 < n → Plain (formatOf f) (now (s .entry)) n) ⌝ }
 {
@@ -206,9 +219,6 @@ fn plain_octets(f: Format, s: &[u8]) -> usize
         return 0;
     }
     let k = type_in(f, s) as usize;
-    if k == SID {
-        return 0;
-    }
     if carries_modes(f, k) {
         return 0;
     }
@@ -219,7 +229,10 @@ fn plain_octets(f: Format, s: &[u8]) -> usize
     if s.len() < n {
         return 0;
     }
-    if spare_clear(f, s, k, n) { n } else { 0 }
+    if !spare_clear(f, s, k, n) {
+        return 0;
+    }
+    if sid_fine(f, s, k) { n } else { 0 }
 }
 
 // The frame at the start of `s`, where more may follow; its count is the octets that it takes. Plain frames come first: they are the most,

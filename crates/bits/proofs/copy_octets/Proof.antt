@@ -10,11 +10,11 @@ use Rattle.bits.proofs.Masks.{low3}
 use Rattle.bits.proofs.copy_octets.Statement.{statement}
 use Rattle.bits.proofs.copy_octets.Tie as tie
 
-copy-whole-requires : tie.Need-copy-whole-requires
-copy-whole-requires c κs = search needs
+each-whole-requires : tie.Need-each-whole-requires
+each-whole-requires c κs = search needs
 
-copy-shifted-requires : tie.Need-copy-shifted-requires
-copy-shifted-requires c κs =
+each-shifted-requires : tie.Need-each-shifted-requires
+each-shifted-requires c κs =
     let e = low3 (c .before .before .before .before .args .from) in
     (omega arith, omega arith, omega arith, omega arith)
 
@@ -26,7 +26,7 @@ returns c =
     let a = c .before .before .before .before .before .before .before .args in
     let e = low3 (c .before .before .before .before .before .before .before .args .from) in
     let at : 8 * (c .before .before .before .before .before .before .before .args .from / 8) ≡ c .before .before .before .before .before .before .before .args .from = omega arith in
-    c .before .before .copy-whole .ensures ∙ ap (λ (n : ℕ). copied (bits (a .dst .now)) (8 * a .j) (drop n (bits (a .src .now))) (8 * a .m)) at
+    c .before .before .each-whole .ensures ∙ ap (λ (n : ℕ). copied (bits (a .dst .now)) (8 * a .j) (drop n (bits (a .src .now))) (8 * a .m)) at
 
 same-length-2 : tie.Need-same-length-2
 same-length-2 c = search needs
@@ -36,14 +36,14 @@ returns-2 c =
     let a = c .before .before .before .before .before .before .before .args in
     let e = low3 (c .before .before .before .before .before .before .before .args .from) in
     let at : 8 * (c .before .before .before .before .before .before .before .args .from / 8) + bitAnd (c .before .before .before .before .before .before .before .args .from) 7 ≡ c .before .before .before .before .before .before .before .args .from = omega arith in
-    c .before .before .copy-shifted .ensures ∙ ap (λ (n : ℕ). copied (bits (a .dst .now)) (8 * a .j) (drop n (bits (a .src .now))) (8 * a .m)) at
+    c .before .before .each-shifted .ensures ∙ ap (λ (n : ℕ). copied (bits (a .dst .now)) (8 * a .j) (drop n (bits (a .src .now))) (8 * a .m)) at
 
 pub copy-octets-spec : {M : Type 1} → statement M
 copy-octets-spec =
     tie.close
     (tie.spec
-    copy-whole-requires
-    copy-shifted-requires
+    each-whole-requires
+    each-shifted-requires
     same-length
     returns
     same-length-2

@@ -1,73 +1,52 @@
 -- `frame_carrier::move_core` meets its contract: each pair of formats has its mover. Assumes nothing.
 use borrow.Author.Needs.{needs}
-use mathlib.Core.Path.{sym, _∙_, subst}
+use mathlib.Core.Path.{sym, _∙_}
 use Rattle.frame.specs.Answers.{formatOf}
-use Rattle.frame_carrier.specs.Carriable.{Carriable, CoreMoved}
-use Rattle.frame_carrier.proofs.FrontLaws.{if2-is, if2-not}
+use Rattle.frame_carrier.proofs.FrontLaws.{both-not, one-is}
 use Rattle.frame_carrier.proofs.move_core.Statement.{statement}
 use Rattle.frame_carrier.proofs.move_core.Tie as tie
 use Rattle.frame_carrier.proofs.move_core.Reads as reads
 use Rattle.frame_carrier.proofs.move_core.Lts as lts
-use Rattle.frame_carrier.proofs.from_if2.Reads as from-if2-reads
-use Rattle.frame_carrier.proofs.is_if2.Reads as is-if2-reads
+use Rattle.frame_carrier.proofs.both_whole.Reads as both-whole-reads
+use Rattle.frame_carrier.proofs.over_shifted.Reads as over-shifted-reads
 use Rattle.frame_carrier.proofs.over_whole.Reads as over-whole-reads
-use Rattle.frame_carrier.proofs.to_if2.Reads as to-if2-reads
 
-is-if2-requires : tie.Need-is-if2-requires
-is-if2-requires c κs = search needs
+both-whole-requires : tie.Need-both-whole-requires
+both-whole-requires c κs = search needs
 
-to-if2-requires : tie.Need-to-if2-requires
-to-if2-requires c κs =
-    let a = c .before .before .before .before .before .args in let p = c .before .before .before .before .before .pre in
-    (p .0, (p .1 .0, p .1 .1, subst (λ g. Carriable (formatOf (a .f)) g (a .src .now) (p .1 .0) (a .out .now)) (if2-is (formatOf (a .g)) (sym (c .before .before .is-if2 .ensures) ∙ c .before .if1 .taken)) (p .1 .2)))
+over-whole-requires : tie.Need-over-whole-requires
+over-whole-requires c κs =
+    let a = c .before .before .before .before .before .args in
+    let n = both-not (formatOf (a .f)) (formatOf (a .g)) (sym (c .before .before .both-whole .ensures) ∙ c .before .if1 .taken) in
+    (c .before .before .before .before .before .pre .0, n .0, n .1, c .before .before .before .before .before .pre .1)
+
+over-shifted-requires : tie.Need-over-shifted-requires
+over-shifted-requires c κs =
+    let a = c .before .before .before .before .before .args in
+    (c .before .before .before .before .before .pre .0, one-is (formatOf (a .f)) (formatOf (a .g)) (sym (c .before .before .both-whole .ensures) ∙ c .before .if1 .left), c .before .before .before .before .before .pre .1)
 
 same-length : tie.Need-same-length
 same-length c = search needs
 
 returns : tie.Need-returns
 returns c =
-    let a = c .before .before .before .before .before .before .before .before .args in
-    subst (λ g. CoreMoved (formatOf (a .f)) g (a .t) (a .src .now) (a .out .now) (c .before .before .to-if2 .last .1 .1 .1 .0)) (sym (if2-is (formatOf (a .g)) (sym (c .before .before .before .before .before .is-if2 .ensures) ∙ c .before .before .before .before .if1 .taken))) (c .before .before .to-if2 .ensures)
-
-is-if2-requires-2 : tie.Need-is-if2-requires-2
-is-if2-requires-2 c κs = search needs
-
-from-if2-requires : tie.Need-from-if2-requires
-from-if2-requires c κs =
-    let a = c .before .before .before .before .before .before .before .args in let p = c .before .before .before .before .before .before .before .pre in
-    (p .0, (p .1 .0, p .1 .1, subst (λ f. Carriable f (formatOf (a .g)) (a .src .now) (p .1 .0) (a .out .now)) (if2-is (formatOf (a .f)) (sym (c .before .before .is-if22 .ensures) ∙ c .before .if2 .taken)) (p .1 .2)))
+    c .before .before .over-whole .ensures
 
 same-length-2 : tie.Need-same-length-2
 same-length-2 c = search needs
 
 returns-2 : tie.Need-returns-2
 returns-2 c =
-    let a = c .before .before .before .before .before .before .before .before .before .before .args in
-    subst (λ f. CoreMoved f (formatOf (a .g)) (a .t) (a .src .now) (a .out .now) (c .before .before .from-if2 .last .1 .1 .1 .0)) (sym (if2-is (formatOf (a .f)) (sym (c .before .before .before .before .before .is-if22 .ensures) ∙ c .before .before .before .before .if2 .taken))) (c .before .before .from-if2 .ensures)
-
-over-whole-requires : tie.Need-over-whole-requires
-over-whole-requires c κs =
-    let a = c .before .before .before .before .before .before .before .args in let p = c .before .before .before .before .before .before .before .pre in
-    (p .0, if2-not (formatOf (a .f)) (sym (c .before .before .is-if22 .ensures) ∙ c .before .if2 .left), if2-not (formatOf (a .g)) (sym (c .before .before .before .before .is-if2 .ensures) ∙ c .before .before .before .if1 .left), p .1)
-
-same-length-3 : tie.Need-same-length-3
-same-length-3 c = search needs
-
-returns-3 : tie.Need-returns-3
-returns-3 c = search needs
+    c .before .before .over-shifted .ensures
 
 pub move-core-spec : {M : Type 1} → statement M
 move-core-spec =
     tie.close
     (tie.spec
-    is-if2-requires
-    to-if2-requires
+    both-whole-requires
+    over-whole-requires
+    over-shifted-requires
     same-length
     returns
-    is-if2-requires-2
-    from-if2-requires
     same-length-2
-    returns-2
-    over-whole-requires
-    same-length-3
-    returns-3)
+    returns-2)
