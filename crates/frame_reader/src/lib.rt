@@ -222,17 +222,17 @@ fn plain_octets(f: Format, s: &[u8]) -> usize
     if carries_modes(f, k) {
         return 0;
     }
-    let n = octets_of(f, k);
-    if n == 0 {
+    let size = octets_of(f, k);
+    if size == 0 {
         return 0;
     }
-    if s.len() < n {
+    if s.len() < size {
         return 0;
     }
-    if !spare_clear(f, s, k, n) {
+    if !spare_clear(f, s, k, size) {
         return 0;
     }
-    if sid_fine(f, s, k) { n } else { 0 }
+    if sid_fine(f, s, k) { size } else { 0 }
 }
 
 // The frame at the start of `s`, where more may follow; its count is the octets that it takes. Plain frames come first: they are the most,
