@@ -20,8 +20,8 @@ use Rattle.recordings.proofs.Scan.{not-done, not-refused}
 use Rattle.recording_reader.specs.Answers.{countsOf}
 use Rattle.recording_reader.specs.declared.Counts.{Counts}
 use Rattle.recording_reader.proofs.ScanLaws.{total}
-use Rattle.demand_three.specs.Demand3.{formatNumber}
-use Rattle.demand_three.proofs.Carried.{all-same}
+use Rattle.recordings.specs.Demand3.{formatNumber}
+use Rattle.recordings.proofs.Returning.{all-same}
 use Rattle.converter.specs.Output.{IntoBuffer, Convertible, Same}
 
 -- ---- 11

@@ -1,5 +1,5 @@
-// Building one frame: judged first, then written. `build_if1`, `build_if2` and `build_storage` are entries; `write_frame`, the one place
-// where a frame's octets are made, is `pub` for the crates that convert recordings.
+// Building one frame: judged first, then written. `build_if1`, `build_if2` and `build_storage` are entries; `first_octet`
+// is `pub` for the crate that carries frames over.
 use frame::Built;
 use frame::Format;
 use frame::FrameHeader;
@@ -32,7 +32,7 @@ const SID: u64 = 9;
 
 const SID_MODE_AT: usize = 36;
 
-// The octet of type and quality, with spare bits 0. For the crate that carries frames over.
+// The octet of type and quality, with spare bits 0.
 pub fn first_octet(f: Format, t: u8, q: u8) -> u8
     requires { ⌜ (t < 16) × (q < 2) ⌝ }
     ensures { λ r. ⌜ digits 8 r ≡ digits (spareBefore (formatOf f)) 0 ++ (digits 4 t ++ (digits 1 q ++ digits (3 - spareBefore (formatOf f)) 0)) ⌝ }
@@ -69,7 +69,7 @@ fn write_modes(h: FrameHeader, src: &[u8], from: usize, out: &mut [u8])
 }
 
 // Writes the frame of the header `h` whose core stands in `src` from bit `from` on.
-pub fn write_frame(f: Format, h: FrameHeader, src: &[u8], from: usize, out: &mut [u8])
+fn write_frame(f: Format, h: FrameHeader, src: &[u8], from: usize, out: &mut [u8])
     requires { ⌜ Writable (formatOf f) h (now src) from (now out) ⌝ }
     ensures { λ _. ⌜ now (out .exit) ≡ layout (formatOf f) (runFrame h (now (src .entry)) from) ++ drop (octets (formatOf f) (h .«frame_type»)) (now (out .entry)) ⌝ }
 {

@@ -1,3 +1,8 @@
 pub mod Scan
 pub mod Claims
 pub mod Carried
+pub mod Returning
+pub mod Trips
+pub mod Apart
+pub mod Demand3
+mod Wrong

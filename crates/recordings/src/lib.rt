@@ -1,10 +1,17 @@
-// Whole recordings as document 01 defines them: what the crates that read and convert recordings cite, in specs/, and that the reader of
-// recordings is right, as the contract of a function that computes nothing.
+// Whole recordings as document 01 defines them: what the crates that read and convert recordings cite, in specs/, and what is claimed of them,
+// each theorem as the contract of a function that computes nothing.
 ghost use Rattle.recordings.specs.Recordings.{readRecording};
+ghost use Rattle.recordings.specs.Conversion.{convertCall};
 ghost use Rattle.recordings.specs.Claims.{ReadsRecordings};
+ghost use Rattle.recordings.specs.Demand3.{Demand3, firstOnly};
 
 // Does nothing. Its contract: octets are read as frames exactly where they are the frames' recording, and a refusal names the first
 // refused frame.
 pub fn reader_claim()
     ensures { λ _. ⌜ ReadsRecordings readRecording ⌝ }
+{}
+
+// Does nothing. Its contract: demand 3, and that the converter which copies the first frame and counts the others does not meet it.
+pub fn demand_three_claim()
+    ensures { λ _. ⌜ Demand3 convertCall × (Demand3 firstOnly → ⊥) ⌝ }
 {}

@@ -13,8 +13,8 @@ use Rattle.recordings.specs.Placed.{Placed, refusedAt, done, andThenAt}
 use Rattle.recordings.specs.Recordings.{limit}
 use Rattle.recordings.specs.Conversion.{converted, convertCall, countedAt, bufferAfter}
 use Rattle.recordings.proofs.Scan.{not-done}
-use Rattle.demand_three.specs.Demand3.{ValidRecording, formatNumber}
-use Rattle.demand_three.proofs.Claims.{demand-three}
+use Rattle.recordings.specs.Demand3.{ValidRecording, formatNumber}
+use Rattle.recordings.proofs.Demand3.{demand-three}
 use Rattle.recording_reader.specs.Answers.{countsOf}
 use Rattle.recording_reader.specs.declared.Counts.{Counts}
 use Rattle.converter.specs.Output.{IntoBuffer}

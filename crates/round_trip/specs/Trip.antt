@@ -9,7 +9,7 @@ use Rattle.definitions.specs.Reading.{overwritten}
 use Rattle.recordings.specs.Placed.{Placed, done, andThenAt}
 use Rattle.recordings.specs.Recordings.{limit}
 use Rattle.recordings.specs.Conversion.{converted, convertCall, countedAt, bufferAfter}
-use Rattle.demand_three.specs.Demand3.{ValidRecording, formatNumber, Returns}
+use Rattle.recordings.specs.Demand3.{ValidRecording, formatNumber, Returns}
 use Rattle.recording_reader.specs.Answers.{countsOf}
 use Rattle.recording_reader.specs.declared.Counts.{Counts}
 

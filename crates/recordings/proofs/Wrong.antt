@@ -10,11 +10,11 @@ use Rattle.bits.specs.Bits.{Octets, odd, digits, num, bits, packs, pack}
 use Rattle.definitions.specs.Frames.{if2, storage, known, coreBits, octets, header, layout, frameIn, spareClear, fieldsGood, crcGood}
 use Rattle.definitions.specs.Reading.{readWith}
 use Rattle.definitions.specs.Cases.{noData}
 use Rattle.recordings.specs.Placed.{done}
 use Rattle.recordings.specs.Recordings.{fileHeader, readRecording, writeRecording}
 use Rattle.recordings.specs.Conversion.{converted}
-use Rattle.demand_three.specs.Demand3.{ValidRecording, Demand3, firstOnly}
-use Rattle.demand_three.proofs.Trips.{octets-packed}
+use Rattle.recordings.specs.Demand3.{ValidRecording, Demand3, firstOnly}
+use Rattle.recordings.proofs.Trips.{octets-packed}
 
 -- a stored recording of two frames without data
 abbrev two : List ℕ

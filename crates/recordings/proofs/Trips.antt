@@ -1,5 +1,5 @@
 -- What the conversion writes of a valid recording is a recording of valid frames, so it is read again; the way back writes each frame as
--- `Carried` says. Assumes nothing.
+-- `Returning` says. Assumes nothing.
 use mathlib.Core.Path.{_≡_, refl, sym, ap, ap₂, _∙_, subst}
 use mathlib.Core.Logic.{_≢_}
 use mathlib.Core.List.{List, [], _∷_, _++_, map, map-map}
@@ -13,13 +13,13 @@ use Rattle.definitions.specs.Outcome.{ok}
 use Rattle.definitions.specs.Frames.{Format, if1, if2, storage, Frame, header, layout}
 use Rattle.definitions.specs.Reading.{formatNumbered}
 use Rattle.definitions.specs.Claims.{Valid}
 use Rattle.recordings.specs.Placed.{done}
 use Rattle.recordings.specs.Recordings.{limit, fileHeader, layouts, writeRecording}
 use Rattle.recordings.specs.Conversion.{carried, converted, conversion, convertCall}
 use Rattle.recordings.specs.Claims.{Every}
 use Rattle.recordings.proofs.Claims.{reads-recordings}
-use Rattle.demand_three.specs.Demand3.{ValidRecording, formatNumber, RoundTrip}
-use Rattle.demand_three.proofs.Carried.{carried-valid, round, round-valid, length-round, every-map, comes-back}
+use Rattle.recordings.specs.Demand3.{ValidRecording, formatNumber, RoundTrip}
+use Rattle.recordings.proofs.Returning.{carried-valid, round, round-valid, length-round, every-map, comes-back}
 
 -- ---- what is written are octets
 

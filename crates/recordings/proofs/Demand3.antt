@@ -6,13 +6,13 @@ use mathlib.Core.List.{List}
 use Prim.Native.Nat.{ℕ}
 use Rattle.bits.specs.Bits.{Octets}
 use Rattle.definitions.specs.Frames.{Format, Frame}
 use Rattle.recordings.specs.Recordings.{writeRecording}
 use Rattle.recordings.specs.Conversion.{convertCall}
 use Rattle.recordings.specs.Claims.{IsRecording}
 use Rattle.recordings.proofs.Claims.{reads-recordings}
-use Rattle.demand_three.specs.Demand3.{ValidRecording, Demand3}
-use Rattle.demand_three.proofs.Trips.{round-trip}
-use Rattle.demand_three.proofs.Apart.{guarded-apart}
+use Rattle.recordings.specs.Demand3.{ValidRecording, Demand3}
+use Rattle.recordings.proofs.Trips.{round-trip}
+use Rattle.recordings.proofs.Apart.{guarded-apart}
 
 same-recordings : (f : Format) (a b : List ℕ) (xs ys : List Frame) → Octets a → Octets b → ValidRecording f a xs → ValidRecording f b ys
     → (a ≡ b) ↔ (xs ≡ ys)

@@ -14,10 +14,10 @@ use Rattle.bits.proofs.Tests.{and-left, and-right, both, given}
 use Rattle.definitions.specs.Frames.{Format, if1, if2, storage, Frame, frameBy, octets, carriesModes, layout, sidGood, uncarriedZero, fieldsGood}
 use Rattle.definitions.specs.Claims.{Valid}
 use Rattle.definitions.proofs.Frames.{frame-path, fields-good, length-layout}
 use Rattle.recordings.specs.Recordings.{layouts}
 use Rattle.recordings.specs.Conversion.{withModes, withoutModes, carried}
 use Rattle.recordings.specs.Claims.{Every, none, first}
-use Rattle.demand_three.specs.Demand3.{Kept, Returns}
+use Rattle.recordings.specs.Demand3.{Kept, Returns}
 
 -- ---- valid again
 

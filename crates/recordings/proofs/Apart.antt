@@ -25,11 +25,11 @@ use Rattle.definitions.specs.Claims.{Valid}
 use Rattle.definitions.proofs.Tables.{sized, class-a-within}
 use Rattle.definitions.proofs.Frames.{read-layout, type-frame, judged, read-known}
 use Rattle.definitions.proofs.Claims.{layouts-differ}
 use Rattle.recordings.specs.Recordings.{layouts, writeRecording}
 use Rattle.recordings.specs.Claims.{Every, none, first}
 use Rattle.recordings.proofs.Claims.{reads-recordings}
-use Rattle.demand_three.specs.Demand3.{ValidRecording, OnlyGuardedDiffer, guardedBits, guardedAt}
-use Rattle.demand_three.proofs.Trips.{octets-layouts}
+use Rattle.recordings.specs.Demand3.{ValidRecording, OnlyGuardedDiffer, guardedBits, guardedAt}
+use Rattle.recordings.proofs.Trips.{octets-layouts}
 
 -- ---- the frame that begins at an octet
 
