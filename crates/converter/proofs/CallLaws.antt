@@ -1,20 +1,20 @@
 -- The conversion's tests, one after the other: 11, what the reading refuses, 9 for what would be written, and 10. Assumes nothing.
 use mathlib.Core.Path.{_≡_, refl, sym, ap, ap₂, _∙_, subst}
 use mathlib.Core.Bool.{Bool, true, false}
-use mathlib.Core.List.{List, _++_}
+use mathlib.Core.List.{List}
 use Prim.Native.Nat.{ℕ, zero, suc, _<_, _≤_}
 use native.Mathlib.Omega.{arith}
 use lib.Dec.{eqb, leb}
 use lib.ListN.{length}
 use borrow.Author.Tests.{leb-true, le-leb, lt-leb, eqb-true, eq-eqb}
 use Rattle.bits.specs.Bits.{Octets}
-use Rattle.definitions.specs.Outcome.{Outcome, refused, ok}
+use Rattle.definitions.specs.Outcome.{refused, ok}
 use Rattle.definitions.specs.Frames.{Format, if1, if2, storage, Frame}
 use Rattle.definitions.specs.Reading.{formatNumbered, overwritten}
 use Rattle.definitions.proofs.Frames.{never}
-use Rattle.recordings.specs.Placed.{Placed, refusedAt, done, andThenAt, placed, unlessAt}
+use Rattle.recordings.specs.Placed.{Placed, refusedAt, done, andThenAt, unlessAt}
 use Rattle.recordings.specs.Recordings.{limit, readRecording, writeRecording}
-use Rattle.recordings.specs.Conversion.{carried, converted, conversion, judged, convertCall, countedAt, lengthCall, bufferAfter}
+use Rattle.recordings.specs.Conversion.{converted, conversion, judged, convertCall, countedAt, lengthCall, bufferAfter}
 use Rattle.recordings.proofs.Claims.{reads-recordings}
 use Rattle.recordings.proofs.Scan.{not-done, not-refused}
 use Rattle.recording_reader.specs.Answers.{countsOf}
@@ -22,7 +22,7 @@ use Rattle.recording_reader.specs.declared.Counts.{Counts}
 use Rattle.recording_reader.proofs.ScanLaws.{total}
 use Rattle.recordings.specs.Demand3.{formatNumber}
 use Rattle.recordings.proofs.Returning.{all-same}
-use Rattle.converter.specs.Output.{IntoBuffer, Convertible, Same}
+use Rattle.converter.specs.Output.{IntoBuffer, Same}
 
 -- ---- 11
 

@@ -1,9 +1,9 @@
 -- Octets copied to the front of a buffer. Assumes nothing.
-use mathlib.Core.Path.{_≡_, refl, sym, ap, ap₂, _∙_}
+use mathlib.Core.Path.{_≡_, ap, ap₂, _∙_}
 use mathlib.Core.List.{List, _++_}
 use Prim.Native.Nat.{ℕ, suc, _+_, _<_, _≤_}
 use native.Mathlib.Omega.{arith}
-use lib.ListN.{length, take, drop, getD, set}
+use lib.ListN.{length, drop, getD, set}
 use lib.Seq.{paste, paste-suc, take-all}
 use Rattle.definitions.specs.Reading.{overwritten}
 

@@ -17,7 +17,7 @@ use Rattle.definitions.proofs.Frames.{type-frame, length-layout, read-layout, j
 use Rattle.recordings.specs.Placed.{done}
 use Rattle.recordings.specs.Recordings.{limit, fileHeader, readRecording, layouts, writeRecording}
 use Rattle.recordings.specs.Conversion.{carried, converted}
-use Rattle.recordings.specs.Claims.{Every, none, first, IsRecording}
+use Rattle.recordings.specs.Claims.{Every, first}
 use Rattle.recordings.proofs.Claims.{reads-recordings}
 use Rattle.recordings.proofs.Carried.{size-carried}
 use Rattle.frame_carrier.specs.Carriable.{Carriable}

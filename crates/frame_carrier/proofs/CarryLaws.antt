@@ -1,20 +1,18 @@
 -- A frame's octets in another format: the core's octets are windows of the core, and the octets in front of them are the header's. Assumes
 -- nothing.
-use mathlib.Core.Path.{_≡_, refl, sym, ap, ap₂, _∙_, subst}
-use mathlib.Core.Bool.{Bool, true, false, cond}
-use mathlib.Core.List.{List, [], _∷_, _++_, append-assoc}
-use Prim.Native.Nat.{ℕ, zero, suc, _+_, _-_, _*_, _/_, _^_, _<_, _≤_}
+use mathlib.Core.Path.{_≡_, sym, ap, ap₂, _∙_}
+use mathlib.Core.Bool.{Bool, true, false}
+use mathlib.Core.List.{List, _∷_, _++_, append-assoc}
+use Prim.Native.Nat.{ℕ, zero, suc, _+_, _*_}
 use native.Mathlib.Omega.{arith}
-use lib.ListN.{length, take, drop, getD, set, replicate, length-append, length-take, length-drop, take-append-drop}
-use lib.Seq.{drop-at, take-at, drop-drop, take-add}
-use Rattle.bits.specs.Bits.{digits, num, bits, packs, pack, octetsFor, Octets}
-use Rattle.bits.proofs.BitLaws.{length-digits, num-front, num-append, digits-join, take-digits, bits-from, length-pack}
-use Rattle.definitions.specs.Frames.{Format, if1, if2, storage, Frame, known, coreBits, octets, header, layout, headerBits, fillBits}
-use Rattle.definitions.specs.Claims.{Valid, Begins}
+use lib.ListN.{length, drop, replicate, length-append, take-append-drop}
+use lib.Seq.{drop-drop}
+use Rattle.bits.specs.Bits.{num, bits, packs, pack, octetsFor}
+use Rattle.definitions.specs.Frames.{Format, Frame, known, coreBits, octets, header, layout, headerBits, fillBits}
+use Rattle.definitions.specs.Claims.{Begins}
 use Rattle.definitions.proofs.Tables.{sized}
-use Rattle.definitions.proofs.Frames.{laid, length-header, size-layout, after-header, bits-layout}
-use Rattle.frame_carrier.specs.Carriable.{coreAt, behind}
-use Rattle.frame_carrier.proofs.PackLaws.{drop-packs}
+use Rattle.definitions.proofs.Frames.{laid, length-header, after-header, bits-layout}
+use Rattle.frame_carrier.specs.Carriable.{behind}
 
 -- ---- the source
 

@@ -3,7 +3,7 @@ use mathlib.Core.Path.{_≡_, refl, sym, ap, ap₂, _∙_, subst}
 use mathlib.Core.Bool.{Bool, true, false, _&&_}
 use mathlib.Core.Logic.{_≢_, inl, inr}
 use mathlib.Core.List.{List, _++_}
-use Prim.Native.Nat.{ℕ, suc, _+_, _-_, _*_, _/_, _<_, _≤_}
+use Prim.Native.Nat.{ℕ, _+_, _-_, _*_, _/_, _<_, _≤_}
 use native.Mathlib.Omega.{arith}
 use lib.Dec.{eqb, leb, ltb}
 use lib.ListN.{length, take, drop, replicate, length-take, length-drop}
@@ -13,8 +13,6 @@ use Rattle.bits.specs.Bits.{bits, packs, one-if, Octets, copied}
 use Rattle.bits.proofs.BitLaws.{length-bits}
 use Rattle.bits.proofs.Tests.{and-left, and-right, every-below}
 use Rattle.definitions.specs.Frames.{Format, if1, if2, storage, Frame, known, coreBits, octets, coreOctets, headerBits, fillBits}
-use Rattle.definitions.specs.Claims.{Begins}
-use Rattle.definitions.proofs.Tables.{sized}
 use Rattle.frame.proofs.TableLaws.{room}
 use Rattle.frame_carrier.specs.Carriable.{coreAt, behind, Ends, Moves, Carriable}
 use Rattle.frame_carrier.proofs.PackLaws.{packs-padded, copied-octets}

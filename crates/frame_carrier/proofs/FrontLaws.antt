@@ -3,24 +3,23 @@ use mathlib.Core.Path.{_≡_, refl, sym, ap, ap₂, _∙_, subst}
 use mathlib.Core.Bool.{Bool, true, false, not, _&&_, _||_, cond}
 use mathlib.Core.Logic.{_≢_}
 use mathlib.Core.List.{List, [], _∷_, _++_, append-assoc, append-nil}
-use Prim.Native.Nat.{ℕ, zero, suc, _+_, _-_, _*_, _/_, _%_, _^_, _<_, _≤_}
+use Prim.Native.Nat.{ℕ, suc, _+_, _-_, _*_, _/_, _^_, _<_, _≤_}
 use native.Mathlib.Nat.{mod-eq-of-lt}
 use native.Mathlib.Omega.{arith}
 use lib.Dec.{eqb, leb}
-use lib.ListN.{length, take, drop, getD, set, replicate, length-append, length-take, length-drop}
-use lib.Seq.{drop-at, take-at, drop-drop, take-take}
+use lib.ListN.{length, take, drop, getD, set, length-append, length-take}
+use lib.Seq.{drop-at, take-take}
 use borrow.Author.Tests.{leb-true, le-leb, lt-leb, eqb-true, not-true}
 use Rattle.bits.specs.Bits.{odd, digits, num, bits, packs, pack, octetsFor, Octets}
-use Rattle.bits.proofs.BitLaws.{length-digits, num-lt, num-digits, num-front, num-append, num-pad, digits-join, digits-zero, length-pack, take-packed, octet-field, bits-injective}
+use Rattle.bits.proofs.BitLaws.{length-digits, num-lt, num-digits, num-front, num-append, take-packed, octet-field}
 use Rattle.bits.proofs.Tests.{and-left, and-right, or-else, given, every-below}
 use Rattle.parity.specs.Crc.{crc}
 use Rattle.parity.proofs.Guarded.{octet-bits}
-use Rattle.definitions.specs.Frames.{Format, if1, if2, storage, Frame, known, coreBits, classA, octets, coreOctets, carriesModes, modesAndCrc, header, layout, headerBits, spareBefore, qualityIn, typeIn, frameIn}
+use Rattle.definitions.specs.Frames.{Format, if1, if2, storage, Frame, known, coreBits, classA, octets, coreOctets, modesAndCrc, header, layout, qualityIn, typeIn, frameIn}
 use Rattle.definitions.specs.Claims.{Valid, Begins}
 use Rattle.definitions.proofs.Tables.{sized, known-below, class-a-within}
 use Rattle.definitions.proofs.Frames.{length-header, judged, begins-read}
 use Rattle.recordings.specs.Conversion.{withModes, withoutModes, carried}
-use Rattle.recordings.proofs.Carried.{carried-keeps}
 use Rattle.frame_builder.proofs.BuilderLaws.{firstBits, long-header, octets-three, second-octet}
 use Rattle.frame_carrier.specs.Carriable.{isIf2, coreAt, behind, Carriable, CoreMoved}
 use Rattle.frame_carrier.proofs.CarryLaws.{frameBits, layout-packs, joined}

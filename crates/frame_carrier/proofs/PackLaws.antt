@@ -1,15 +1,15 @@
 -- Octets as windows of a list of bits: `packs` under zeros, from an octet on, and after a copy. Assumes nothing.
 use mathlib.Core.Path.{_≡_, refl, sym, ap, ap₂, _∙_}
-use mathlib.Core.Bool.{Bool, true, false}
+use mathlib.Core.Bool.{Bool, false}
 use mathlib.Core.List.{List, [], _∷_, _++_}
-use Prim.Native.Nat.{ℕ, zero, suc, _+_, _-_, _*_, _/_, _%_, _^_, _<_, _≤_}
+use Prim.Native.Nat.{ℕ, zero, suc, _+_, _-_, _*_, _%_, _^_, _<_, _≤_}
 use native.Mathlib.Omega.{arith}
 use lib.Dec.{eqb}
-use lib.ListN.{length, take, drop, getD, replicate, length-drop, drop-of-length-le}
-use lib.Seq.{drop-drop, drop-nil, take-add}
+use lib.ListN.{length, take, drop, replicate, length-drop}
+use lib.Seq.{drop-drop, take-add}
 use borrow.Author.Tests.{eqb-true}
 use Rattle.bits.specs.Bits.{odd, one-if, digits, num, bits, packs, Octets, copied}
-use Rattle.bits.proofs.BitLaws.{num-lt, num-zeros, digits-num-le, bits-append, bits-take, bits-drop, bits-injective, octets-take, octets-drop, octets-append}
+use Rattle.bits.proofs.BitLaws.{num-lt, digits-num-le, bits-append, bits-take, bits-drop, bits-injective, octets-take, octets-drop, octets-append}
 use Rattle.bits.proofs.Tests.{every-below}
 
 -- ---- under zeros

@@ -2,11 +2,11 @@
 use mathlib.Core.Path.{_≡_, refl, sym, ap, ap₂, _∙_, subst}
 use mathlib.Core.Bool.{Bool, true, false}
 use mathlib.Core.List.{List, [], _∷_, _++_, append-assoc}
-use Prim.Native.Nat.{ℕ, _+_, _≤_}
+use Prim.Native.Nat.{ℕ, _≤_}
 use native.Mathlib.Omega.{arith}
 use lib.Dec.{eqb, leb}
 use lib.ListN.{length, take, drop, length-append, take-append-drop}
-use lib.Seq.{take-at, drop-at, drop-drop}
+use lib.Seq.{take-at, drop-at}
 use borrow.Author.Tests.{leb-true, le-leb, eqb-true, eq-eqb}
 use Rattle.bits.specs.Bits.{Octets}
 use Rattle.bits.proofs.BitLaws.{octets-drop}
@@ -14,7 +14,6 @@ use Rattle.bits.proofs.Tests.{and-left, and-right, both}
 use Rattle.definitions.specs.Outcome.{refused}
 use Rattle.definitions.specs.Frames.{Format, Frame}
 use Rattle.definitions.specs.Reading.{readFrame}
-use Rattle.definitions.specs.Claims.{Valid}
 use Rattle.recordings.specs.Placed.{Placed, refusedAt, done, unlessAt}
 use Rattle.recordings.specs.Recordings.{limit, fileHeader, sameOctets, headed, scan, scanFrames, readRecording, layouts, writeRecording}
 use Rattle.recordings.specs.Claims.{IsRecording, StopsAt, ReadsRecordings}

@@ -5,10 +5,9 @@ use mathlib.Core.Bool.{false}
 use mathlib.Core.List.{List, [], _∷_, _++_, append-assoc}
 use Prim.Native.Nat.{ℕ, zero, suc, _+_, _-_, _≤_}
 use native.Mathlib.Omega.{arith}
-use lib.ListN.{length, take, drop, length-append, length-take, take-append-drop}
-use lib.Seq.{drop-nil, drop-at, drop-drop}
+use lib.ListN.{length, drop, length-append, take-append-drop}
+use lib.Seq.{drop-nil, drop-at}
 use Rattle.bits.specs.Bits.{Octets}
-use Rattle.bits.proofs.BitLaws.{octets-drop}
 use Rattle.definitions.specs.Outcome.{Outcome, refused, ok}
 use Rattle.definitions.specs.Frames.{Format, Frame, layout, octets}
 use Rattle.definitions.specs.Reading.{readWith, readFrame}

@@ -1,5 +1,5 @@
 -- What the two calls of a round trip make together; demand 3 then says what it is. Assumes nothing.
-use mathlib.Core.Path.{_≡_, refl, sym, ap, ap₂, _∙_, subst}
+use mathlib.Core.Path.{_≡_, sym, ap, ap₂, _∙_}
 use mathlib.Core.Logic.{_≢_}
 use mathlib.Core.List.{List, _++_}
 use Prim.Native.Nat.{ℕ, _≤_}
@@ -8,7 +8,6 @@ use lib.ListN.{length, take, drop, length-append}
 use lib.Seq.{take-at}
 use Rattle.bits.specs.Bits.{Octets}
 use Rattle.definitions.specs.Frames.{Format, Frame}
-use Rattle.definitions.specs.Reading.{overwritten}
 use Rattle.recordings.specs.Placed.{Placed, refusedAt, done, andThenAt}
 use Rattle.recordings.specs.Recordings.{limit}
 use Rattle.recordings.specs.Conversion.{converted, convertCall, countedAt, bufferAfter}

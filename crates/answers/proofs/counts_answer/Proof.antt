@@ -6,9 +6,6 @@ use Rattle.recording_reader.specs.Answers.{countsOf}
 use Rattle.answers.specs.Flat.{placedNumbers}
 use Rattle.answers.proofs.counts_answer.Statement.{statement}
 use Rattle.answers.proofs.counts_answer.Tie as tie
-use Rattle.answers.proofs.counts_answer.Reads as reads
-use Rattle.answers.proofs.counts_answer.Lts as lts
-use Rattle.frame.proofs.refusal_number.Reads as refusal-number-reads
 
 enum-known-a : tie.Need-enum-known-a
 enum-known-a c = search needs

@@ -2,7 +2,6 @@
 -- Assumes nothing.
 use borrow.Author.Needs.{needs}
 use native.Mathlib.Omega.{arith}
-use Prim.Native.Nat.{_-_}
 use lib.Pow.{pow-pos}
 use Rattle.bits.proofs.Masks.{low3, cleared, at-border}
 use Rattle.bits.proofs.clear_to_border.Statement.{statement}

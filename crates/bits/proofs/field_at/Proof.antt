@@ -1,7 +1,7 @@
 -- `bits::field_at` meets its contract: the field lies within two octets, which are read as one number; past the end the second is 0. Assumes nothing.
 use borrow.Author.Needs.{needs}
 use native.Mathlib.Omega.{arith}
-use Prim.Native.Nat.{_-_, _+_, _/_}
+use Prim.Native.Nat.{_+_, _/_}
 use native.Mathlib.Nat.{lt-of-lt-of-le, lt-of-le-of-lt, le-of-eq}
 use mathlib.Core.Path.{_≡_, sym, _∙_}
 use mathlib.Core.Logic.{⊎-elim}

@@ -8,11 +8,6 @@ use Rattle.recording_reader.proofs.CallLaws.{found-is, found-none}
 use Rattle.converter.proofs.CallLaws.{Planned, planned-is, into-from, into-to, into-request, into-refused-reading, into-short, into-done, same-numbers}
 use Rattle.converter.proofs.convert.Statement.{statement}
 use Rattle.converter.proofs.convert.Tie as tie
-use Rattle.converter.proofs.convert.Reads as reads
-use Rattle.converter.proofs.convert.Lts as lts
-use Rattle.converter.proofs.measure.Reads as measure-reads
-use Rattle.converter.proofs.write_recording.Reads as write-recording-reads
-use Rattle.frame.proofs.format_numbered.Reads as format-numbered-reads
 
 -- what nothing in front of the room refuses
 plan-there : (c : tie.After-a)

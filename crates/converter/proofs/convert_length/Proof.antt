@@ -6,10 +6,6 @@ use Rattle.recording_reader.proofs.CallLaws.{found-is, found-none}
 use Rattle.converter.proofs.CallLaws.{no-from, no-to, no-request, length-passes}
 use Rattle.converter.proofs.convert_length.Statement.{statement}
 use Rattle.converter.proofs.convert_length.Tie as tie
-use Rattle.converter.proofs.convert_length.Reads as reads
-use Rattle.converter.proofs.convert_length.Lts as lts
-use Rattle.converter.proofs.measure.Reads as measure-reads
-use Rattle.frame.proofs.format_numbered.Reads as format-numbered-reads
 
 format-numbered-requires : tie.Need-format-numbered-requires
 format-numbered-requires c κs = search needs

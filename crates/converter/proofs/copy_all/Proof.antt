@@ -7,8 +7,6 @@ use lib.Seq.{paste, paste-zero}
 use Rattle.converter.proofs.CopyLaws.{paste-one, paste-whole}
 use Rattle.converter.proofs.copy_all.Statement.{statement}
 use Rattle.converter.proofs.copy_all.Tie as tie
-use Rattle.converter.proofs.copy_all.Reads as reads
-use Rattle.converter.proofs.copy_all.Lts as lts
 
 abbrev Inv-loop : tie.InvT-loop
 Inv-loop s out₀ n i₀ out i = (i ≤ length s) × (length out ≡ length out₀) × (out ≡ paste out₀ 0 s i)

@@ -6,9 +6,6 @@ use Rattle.recording_reader.specs.Answers.{countsOf}
 use Rattle.converter.proofs.CallLaws.{measured-refused, measured-long, measured}
 use Rattle.converter.proofs.measure.Statement.{statement}
 use Rattle.converter.proofs.measure.Tie as tie
-use Rattle.converter.proofs.measure.Reads as reads
-use Rattle.converter.proofs.measure.Lts as lts
-use Rattle.recording_reader.proofs.read_all.Reads as read-all-reads
 
 read-all-requires : tie.Need-read-all-requires
 read-all-requires c κs = search needs

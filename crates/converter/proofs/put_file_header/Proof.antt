@@ -8,9 +8,6 @@ use Rattle.recordings.specs.Recordings.{fileHeader}
 use Rattle.frame.specs.Answers.{formatOf}
 use Rattle.converter.proofs.put_file_header.Statement.{statement}
 use Rattle.converter.proofs.put_file_header.Tie as tie
-use Rattle.converter.proofs.put_file_header.Reads as reads
-use Rattle.converter.proofs.put_file_header.Lts as lts
-use Rattle.converter.proofs.copy_all.Reads as copy-all-reads
 
 enum-told : tie.Need-enum-told
 enum-told c = search needs

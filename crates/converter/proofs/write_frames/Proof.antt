@@ -12,13 +12,6 @@ use Rattle.recordings.specs.Recordings.{limit}
 use Rattle.converter.proofs.WriteLaws.{header-room, header-long, Written, written-start, written-end, at-front, front-octets, front-room, part-type, part-carriable, part-written}
 use Rattle.converter.proofs.write_frames.Statement.{statement}
 use Rattle.converter.proofs.write_frames.Tie as tie
-use Rattle.converter.proofs.write_frames.Reads as reads
-use Rattle.converter.proofs.write_frames.Lts as lts
-use Rattle.converter.proofs.put_file_header.Reads as put-file-header-reads
-use Rattle.frame.proofs.table.octets_of.Reads as octets-of-reads
-use Rattle.frame_carrier.proofs.carry_frame.Reads as carry-frame-reads
-use Rattle.frame_reader.proofs.type_in.Reads as type-in-reads
-use Rattle.recording_reader.proofs.header_octets.Reads as header-octets-reads
 
 abbrev Inv-loop : tie.InvT-loop
 Inv-loop f g r s out₀ at₀ to₀ out at to = Written (formatOf f) (formatOf g) r s out₀ out at to

@@ -8,10 +8,6 @@ use Rattle.frame.specs.Answers.{formatOf}
 use Rattle.converter.proofs.CallLaws.{copied-whole}
 use Rattle.converter.proofs.write_recording.Statement.{statement}
 use Rattle.converter.proofs.write_recording.Tie as tie
-use Rattle.converter.proofs.write_recording.Reads as reads
-use Rattle.converter.proofs.write_recording.Lts as lts
-use Rattle.converter.proofs.copy_all.Reads as copy-all-reads
-use Rattle.converter.proofs.write_frames.Reads as write-frames-reads
 
 copy-all-requires : tie.Need-copy-all-requires
 copy-all-requires c κs =

@@ -7,14 +7,6 @@ use Rattle.frame.specs.Answers.{formatOf}
 use Rattle.frame_carrier.proofs.FrontLaws.{front-fields, space, if1-room, core-in, first-small, done-none, done-if1, done-if2, done-storage}
 use Rattle.frame_carrier.proofs.carry_frame.Statement.{statement}
 use Rattle.frame_carrier.proofs.carry_frame.Tie as tie
-use Rattle.frame_carrier.proofs.carry_frame.Reads as reads
-use Rattle.frame_carrier.proofs.carry_frame.Lts as lts
-use Rattle.frame_builder.proofs.first_octet.Reads as first-octet-reads
-use Rattle.frame_carrier.proofs.core_at.Reads as core-at-reads
-use Rattle.frame_carrier.proofs.move_core.Reads as move-core-reads
-use Rattle.frame_carrier.proofs.put_modes.Reads as put-modes-reads
-use Rattle.frame_reader.proofs.quality_in.Reads as quality-in-reads
-use Rattle.frame_reader.proofs.type_in.Reads as type-in-reads
 
 type-in-requires : tie.Need-type-in-requires
 type-in-requires c κs =

@@ -4,8 +4,6 @@ use mathlib.Core.Bool.{cond}
 use borrow.Author.Tests.{le-leb, lt-leb}
 use Rattle.frame_carrier.proofs.indication_of.Statement.{statement}
 use Rattle.frame_carrier.proofs.indication_of.Tie as tie
-use Rattle.frame_carrier.proofs.indication_of.Reads as reads
-use Rattle.frame_carrier.proofs.indication_of.Lts as lts
 
 returns : tie.Need-returns
 returns c =

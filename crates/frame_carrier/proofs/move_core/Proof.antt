@@ -5,11 +5,6 @@ use Rattle.frame.specs.Answers.{formatOf}
 use Rattle.frame_carrier.proofs.FrontLaws.{both-not, one-is}
 use Rattle.frame_carrier.proofs.move_core.Statement.{statement}
 use Rattle.frame_carrier.proofs.move_core.Tie as tie
-use Rattle.frame_carrier.proofs.move_core.Reads as reads
-use Rattle.frame_carrier.proofs.move_core.Lts as lts
-use Rattle.frame_carrier.proofs.both_whole.Reads as both-whole-reads
-use Rattle.frame_carrier.proofs.over_shifted.Reads as over-shifted-reads
-use Rattle.frame_carrier.proofs.over_whole.Reads as over-whole-reads
 
 both-whole-requires : tie.Need-both-whole-requires
 both-whole-requires c κs = search needs

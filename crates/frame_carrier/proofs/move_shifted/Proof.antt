@@ -9,9 +9,6 @@ use Rattle.bits.specs.Bits.{one-if, packs}
 use Rattle.frame_carrier.proofs.MoveLaws.{moved, last-octet, moved-last, shift-below, shift-octet}
 use Rattle.frame_carrier.proofs.move_shifted.Statement.{statement}
 use Rattle.frame_carrier.proofs.move_shifted.Tie as tie
-use Rattle.frame_carrier.proofs.move_shifted.Reads as reads
-use Rattle.frame_carrier.proofs.move_shifted.Lts as lts
-use Rattle.bits.proofs.copy_shifted.Reads as copy-shifted-reads
 
 copy-shifted-requires : tie.Need-copy-shifted-requires
 copy-shifted-requires c κs =

@@ -4,10 +4,6 @@ use Rattle.frame.specs.Answers.{formatOf}
 use Rattle.frame_carrier.proofs.CoreLaws.{shifted-asks, shifted-gives}
 use Rattle.frame_carrier.proofs.over_shifted.Statement.{statement}
 use Rattle.frame_carrier.proofs.over_shifted.Tie as tie
-use Rattle.frame_carrier.proofs.over_shifted.Reads as reads
-use Rattle.frame_carrier.proofs.over_shifted.Lts as lts
-use Rattle.frame_carrier.proofs.move_shifted.Reads as move-shifted-reads
-use Rattle.frame_carrier.proofs.plan.Reads as plan-reads
 
 plan-requires : tie.Need-plan-requires
 plan-requires c κs =

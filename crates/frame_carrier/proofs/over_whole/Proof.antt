@@ -7,11 +7,6 @@ use Rattle.frame.specs.Answers.{formatOf}
 use Rattle.frame_carrier.proofs.CoreLaws.{over-asks, over-gives}
 use Rattle.frame_carrier.proofs.over_whole.Statement.{statement}
 use Rattle.frame_carrier.proofs.over_whole.Tie as tie
-use Rattle.frame_carrier.proofs.over_whole.Reads as reads
-use Rattle.frame_carrier.proofs.over_whole.Lts as lts
-use Rattle.bits.proofs.copy_whole.Reads as copy-whole-reads
-use Rattle.frame.proofs.table.core_bits.Reads as core-bits-reads
-use Rattle.frame_carrier.proofs.core_at.Reads as core-at-reads
 
 core-bits-requires : tie.Need-core-bits-requires
 core-bits-requires c κs =

@@ -7,12 +7,6 @@ use Rattle.frame_carrier.proofs.CoreLaws.{some-octet, moves-up, moves-d
 use Rattle.frame_carrier.proofs.FrontLaws.{if2-is}
 use Rattle.frame_carrier.proofs.plan.Statement.{statement}
 use Rattle.frame_carrier.proofs.plan.Tie as tie
-use Rattle.frame_carrier.proofs.plan.Reads as reads
-use Rattle.frame_carrier.proofs.plan.Lts as lts
-use Rattle.frame.proofs.table.core_bits.Reads as core-bits-reads
-use Rattle.frame.proofs.table.octets_of.Reads as octets-of-reads
-use Rattle.frame_carrier.proofs.core_at.Reads as core-at-reads
-use Rattle.frame_carrier.proofs.is_if2.Reads as is-if2-reads
 
 core-bits-requires : tie.Need-core-bits-requires
 core-bits-requires c κs =

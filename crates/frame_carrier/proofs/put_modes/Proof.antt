@@ -13,11 +13,6 @@ use Rattle.frame_carrier.proofs.CoreLaws.{sizes}
 use Rattle.frame_carrier.proofs.FrontLaws.{three-set, indication-small}
 use Rattle.frame_carrier.proofs.put_modes.Statement.{statement}
 use Rattle.frame_carrier.proofs.put_modes.Tie as tie
-use Rattle.frame_carrier.proofs.put_modes.Reads as reads
-use Rattle.frame_carrier.proofs.put_modes.Lts as lts
-use Rattle.frame.proofs.table.class_a.Reads as class-a-reads
-use Rattle.frame_carrier.proofs.indication_of.Reads as indication-of-reads
-use Rattle.parity.proofs.crc_of.Reads as crc-of-reads
 
 sub-crc-of : tie.Need-sub-crc-of
 sub-crc-of c =

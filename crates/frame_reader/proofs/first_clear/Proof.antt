@@ -10,8 +10,6 @@ use Rattle.frame.specs.Answers.{formatOf}
 use Rattle.frame_reader.proofs.ReaderLaws.{first-if1, first-if2, first-storage}
 use Rattle.frame_reader.proofs.first_clear.Statement.{statement}
 use Rattle.frame_reader.proofs.first_clear.Tie as tie
-use Rattle.frame_reader.proofs.first_clear.Reads as reads
-use Rattle.frame_reader.proofs.first_clear.Lts as lts
 
 enum-told : tie.Need-enum-told
 enum-told c = search needs

@@ -12,13 +12,6 @@ use Rattle.frame.specs.Answers.{formatOf}
 use Rattle.frame.proofs.TableLaws.{type-below, octets-not-reserved}
 use Rattle.frame_reader.proofs.plain_octets.Statement.{statement}
 use Rattle.frame_reader.proofs.plain_octets.Tie as tie
-use Rattle.frame_reader.proofs.plain_octets.Reads as reads
-use Rattle.frame_reader.proofs.plain_octets.Lts as lts
-use Rattle.frame.proofs.table.carries_modes.Reads as carries-modes-reads
-use Rattle.frame.proofs.table.octets_of.Reads as octets-of-reads
-use Rattle.frame_reader.proofs.sid_fine.Reads as sid-fine-reads
-use Rattle.frame_reader.proofs.spare_clear.Reads as spare-clear-reads
-use Rattle.frame_reader.proofs.type_in.Reads as type-in-reads
 
 -- a type with octets is known
 known-there : (c : tie.Else4) → known (c .before .before .before .before .before .type-in .result) ≡ true

@@ -5,12 +5,6 @@ use Rattle.frame.specs.Answers.{formatOf}
 use Rattle.frame_reader.proofs.ReaderLaws.{plain-reads}
 use Rattle.frame_reader.proofs.read_front.Statement.{statement}
 use Rattle.frame_reader.proofs.read_front.Tie as tie
-use Rattle.frame_reader.proofs.read_front.Reads as reads
-use Rattle.frame_reader.proofs.read_front.Lts as lts
-use Rattle.frame_reader.proofs.judge.Reads as judge-reads
-use Rattle.frame_reader.proofs.plain_octets.Reads as plain-octets-reads
-use Rattle.frame_reader.proofs.quality_in.Reads as quality-in-reads
-use Rattle.frame_reader.proofs.type_in.Reads as type-in-reads
 
 plain-octets-requires : tie.Need-plain-octets-requires
 plain-octets-requires c κs = search needs

@@ -1,5 +1,4 @@
 -- `frame_reader::sid_fine` meets its contract. Assumes nothing.
-use borrow.Author.Needs.{needs}
 use mathlib.Core.Path.{sym, ap, _∙_, subst}
 use Prim.Native.Nat.{_≤_}
 use borrow.Author.Tests.{leb-true}
@@ -9,9 +8,6 @@ use Rattle.definitions.specs.Frames.{octets, coreIn}
 use Rattle.frame.specs.Answers.{formatOf}
 use Rattle.frame_reader.proofs.sid_fine.Statement.{statement}
 use Rattle.frame_reader.proofs.sid_fine.Tie as tie
-use Rattle.frame_reader.proofs.sid_fine.Reads as reads
-use Rattle.frame_reader.proofs.sid_fine.Lts as lts
-use Rattle.frame_reader.proofs.sid_mode.Reads as sid-mode-reads
 
 returns : tie.Need-returns
 returns c =

@@ -1,5 +1,4 @@
 -- `frame_reader::spare_clear` meets its contract: the first octet's spare bits, and the filling. Assumes nothing.
-use borrow.Author.Needs.{needs}
 use native.Mathlib.Omega.{arith}
 use Rattle.bits.specs.Bits.{bits}
 use Rattle.frame.specs.Answers.{formatOf}
@@ -7,10 +6,6 @@ use Rattle.definitions.proofs.Tables.{sized}
 use Rattle.frame_reader.proofs.ReaderLaws.{spare-first, spare-fill}
 use Rattle.frame_reader.proofs.spare_clear.Statement.{statement}
 use Rattle.frame_reader.proofs.spare_clear.Tie as tie
-use Rattle.frame_reader.proofs.spare_clear.Reads as reads
-use Rattle.frame_reader.proofs.spare_clear.Lts as lts
-use Rattle.frame_reader.proofs.fill_clear.Reads as fill-clear-reads
-use Rattle.frame_reader.proofs.first_clear.Reads as first-clear-reads
 
 first-clear-requires : tie.Need-first-clear-requires
 first-clear-requires c κs =

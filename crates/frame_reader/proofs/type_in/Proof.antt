@@ -7,8 +7,6 @@ use Rattle.frame.specs.Answers.{formatOf}
 use Rattle.frame_reader.proofs.ReaderLaws.{type-if, masked-field}
 use Rattle.frame_reader.proofs.type_in.Statement.{statement}
 use Rattle.frame_reader.proofs.type_in.Tie as tie
-use Rattle.frame_reader.proofs.type_in.Reads as reads
-use Rattle.frame_reader.proofs.type_in.Lts as lts
 
 enum-told : tie.Need-enum-told
 enum-told c = search needs

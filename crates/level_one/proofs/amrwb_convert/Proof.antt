@@ -8,11 +8,6 @@ use Rattle.recordings.specs.Conversion.{convertCall, countedAt, bufferAfter}
 use Rattle.answers.specs.Flat.{placedNumbers}
 use Rattle.level_one.proofs.amrwb_convert.Statement.{statement}
 use Rattle.level_one.proofs.amrwb_convert.Tie as tie
-use Rattle.level_one.proofs.amrwb_convert.Reads as reads
-use Rattle.level_one.proofs.amrwb_convert.Lts as lts
-use Rattle.answers.proofs.counts_answer.Reads as counts-answer-reads
-use Rattle.converter.proofs.convert.Reads as convert-reads
-use Rattle.level_one.proofs.both_here.Reads as both-here-reads
 
 both-here-requires : tie.Need-both-here-requires
 both-here-requires c κs = search needs

@@ -7,11 +7,6 @@ use Rattle.recordings.specs.Conversion.{lengthCall}
 use Rattle.answers.specs.Flat.{placedNumbers}
 use Rattle.level_one.proofs.amrwb_convert_length.Statement.{statement}
 use Rattle.level_one.proofs.amrwb_convert_length.Tie as tie
-use Rattle.level_one.proofs.amrwb_convert_length.Reads as reads
-use Rattle.level_one.proofs.amrwb_convert_length.Lts as lts
-use Rattle.answers.proofs.counts_answer.Reads as counts-answer-reads
-use Rattle.converter.proofs.convert_length.Reads as convert-length-reads
-use Rattle.level_one.proofs.both_here.Reads as both-here-reads
 
 both-here-requires : tie.Need-both-here-requires
 both-here-requires c κs = search needs

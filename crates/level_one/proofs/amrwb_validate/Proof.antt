@@ -7,10 +7,6 @@ use Rattle.recordings.specs.Recordings.{validateCall}
 use Rattle.answers.specs.Flat.{placedNumbers}
 use Rattle.level_one.proofs.amrwb_validate.Statement.{statement}
 use Rattle.level_one.proofs.amrwb_validate.Tie as tie
-use Rattle.level_one.proofs.amrwb_validate.Reads as reads
-use Rattle.level_one.proofs.amrwb_validate.Lts as lts
-use Rattle.answers.proofs.counts_answer.Reads as counts-answer-reads
-use Rattle.recording_reader.proofs.validate.Reads as validate-reads
 
 counts-answer-requires : tie.Need-counts-answer-requires
 counts-answer-requires c κs = search needs

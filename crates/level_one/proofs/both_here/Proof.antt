@@ -5,8 +5,6 @@ use lib.Dec.{leb}
 use borrow.Author.Tests.{le-leb, lt-leb}
 use Rattle.level_one.proofs.both_here.Statement.{statement}
 use Rattle.level_one.proofs.both_here.Tie as tie
-use Rattle.level_one.proofs.both_here.Reads as reads
-use Rattle.level_one.proofs.both_here.Lts as lts
 
 returns : tie.Need-returns
 returns c =

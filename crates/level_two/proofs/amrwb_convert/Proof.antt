@@ -4,10 +4,6 @@ use mathlib.Core.Path.{ap, _∙_}
 use Rattle.answers.specs.Flat.{placedNumbers}
 use Rattle.level_two.proofs.amrwb_convert.Statement.{statement}
 use Rattle.level_two.proofs.amrwb_convert.Tie as tie
-use Rattle.level_two.proofs.amrwb_convert.Reads as reads
-use Rattle.level_two.proofs.amrwb_convert.Lts as lts
-use Rattle.answers.proofs.counts_answer.Reads as counts-answer-reads
-use Rattle.converter.proofs.convert.Reads as convert-reads
 
 convert-requires : tie.Need-convert-requires
 convert-requires c κs = search needs

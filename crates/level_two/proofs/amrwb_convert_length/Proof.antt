@@ -4,10 +4,6 @@ use mathlib.Core.Path.{ap, _∙_}
 use Rattle.answers.specs.Flat.{placedNumbers}
 use Rattle.level_two.proofs.amrwb_convert_length.Statement.{statement}
 use Rattle.level_two.proofs.amrwb_convert_length.Tie as tie
-use Rattle.level_two.proofs.amrwb_convert_length.Reads as reads
-use Rattle.level_two.proofs.amrwb_convert_length.Lts as lts
-use Rattle.answers.proofs.counts_answer.Reads as counts-answer-reads
-use Rattle.converter.proofs.convert_length.Reads as convert-length-reads
 
 convert-length-requires : tie.Need-convert-length-requires
 convert-length-requires c κs = search needs

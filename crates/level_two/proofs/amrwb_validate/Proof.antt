@@ -4,10 +4,6 @@ use mathlib.Core.Path.{ap, _∙_}
 use Rattle.answers.specs.Flat.{placedNumbers}
 use Rattle.level_two.proofs.amrwb_validate.Statement.{statement}
 use Rattle.level_two.proofs.amrwb_validate.Tie as tie
-use Rattle.level_two.proofs.amrwb_validate.Reads as reads
-use Rattle.level_two.proofs.amrwb_validate.Lts as lts
-use Rattle.answers.proofs.counts_answer.Reads as counts-answer-reads
-use Rattle.recording_reader.proofs.validate.Reads as validate-reads
 
 validate-requires : tie.Need-validate-requires
 validate-requires c κs = search needs

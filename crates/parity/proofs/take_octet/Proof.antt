@@ -4,9 +4,6 @@ use mathlib.Core.Path.{_∙_}
 use Rattle.parity.proofs.Octets.{octet-added}
 use Rattle.parity.proofs.take_octet.Statement.{statement}
 use Rattle.parity.proofs.take_octet.Tie as tie
-use Rattle.parity.proofs.take_octet.Reads as reads
-use Rattle.parity.proofs.take_octet.Lts as lts
-use Rattle.parity.proofs.shift_octet.Reads as shift-octet-reads
 
 shift-octet-requires : tie.Need-shift-octet-requires
 shift-octet-requires c κs = search needs

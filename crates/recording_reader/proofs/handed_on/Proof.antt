@@ -7,8 +7,6 @@ use Rattle.frame.specs.Answers.{numberOf}
 use borrow.Author.Needs.{needs}
 use Rattle.recording_reader.proofs.handed_on.Statement.{statement}
 use Rattle.recording_reader.proofs.handed_on.Tie as tie
-use Rattle.recording_reader.proofs.handed_on.Reads as reads
-use Rattle.recording_reader.proofs.handed_on.Lts as lts
 
 enum-known-r : tie.Need-enum-known-r
 enum-known-r c = search needs

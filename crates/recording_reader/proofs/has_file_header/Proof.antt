@@ -1,5 +1,5 @@
 -- `recording_reader::has_file_header` meets its contract: the octets in front of the place reached agree with the file header. Assumes nothing.
-use mathlib.Core.Path.{_≡_, refl}
+use mathlib.Core.Path.{_≡_}
 use Prim.Native.Nat.{ℕ, _-_, _<_, _≤_}
 use native.Mathlib.Omega.{arith}
 use borrow.Author.Count.{below-more}
@@ -10,8 +10,6 @@ use Rattle.recordings.specs.Recordings.{fileHeader}
 use Rattle.recording_reader.proofs.HeaderLaws.{too-short, differs, agrees}
 use Rattle.recording_reader.proofs.has_file_header.Statement.{statement}
 use Rattle.recording_reader.proofs.has_file_header.Tie as tie
-use Rattle.recording_reader.proofs.has_file_header.Reads as reads
-use Rattle.recording_reader.proofs.has_file_header.Lts as lts
 
 abbrev Inv-loop : tie.InvT-loop
 Inv-loop s i₀ i = (i ≤ 9) × ((k : ℕ) → k < i → getD s k 0 ≡ getD (fileHeader storage) k 0)

@@ -5,9 +5,6 @@ use Rattle.frame.specs.Answers.{formatOf}
 use borrow.Author.Needs.{needs}
 use Rattle.recording_reader.proofs.headed.Statement.{statement}
 use Rattle.recording_reader.proofs.headed.Tie as tie
-use Rattle.recording_reader.proofs.headed.Reads as reads
-use Rattle.recording_reader.proofs.headed.Lts as lts
-use Rattle.recording_reader.proofs.has_file_header.Reads as has-file-header-reads
 
 enum-told : tie.Need-enum-told
 enum-told c = search needs

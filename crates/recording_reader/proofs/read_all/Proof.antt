@@ -6,10 +6,6 @@ use Rattle.frame.specs.Answers.{formatOf}
 use Rattle.recording_reader.proofs.CallLaws.{header-there, too-long, not-headed, scanned}
 use Rattle.recording_reader.proofs.read_all.Statement.{statement}
 use Rattle.recording_reader.proofs.read_all.Tie as tie
-use Rattle.recording_reader.proofs.read_all.Reads as reads
-use Rattle.recording_reader.proofs.read_all.Lts as lts
-use Rattle.recording_reader.proofs.headed.Reads as headed-reads
-use Rattle.recording_reader.proofs.scan.Reads as scan-reads
 
 returns : tie.Need-returns
 returns c =

@@ -9,9 +9,6 @@ use Rattle.recording_reader.specs.Answers.{countsOf}
 use Rattle.recording_reader.proofs.ScanLaws.{total}
 use Rattle.recording_reader.proofs.scan.Statement.{statement}
 use Rattle.recording_reader.proofs.scan.Tie as tie
-use Rattle.recording_reader.proofs.scan.Reads as reads
-use Rattle.recording_reader.proofs.scan.Lts as lts
-use Rattle.recording_reader.proofs.scan_frames.Reads as scan-frames-reads
 
 enum-told : tie.Need-enum-told
 enum-told c = search needs

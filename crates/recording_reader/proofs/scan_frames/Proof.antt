@@ -1,7 +1,7 @@
 -- `recording_reader::scan_frames` meets its contract: what is counted and what is still to come make the answer. Assumes nothing.
 use mathlib.Core.Path.{_≡_, sym, ap, _∙_}
 use mathlib.Core.Bool.{false}
-use Prim.Native.Nat.{ℕ, _+_, _-_, _≤_}
+use Prim.Native.Nat.{_+_, _-_, _≤_}
 use native.Mathlib.Omega.{arith}
 use borrow.Author.Needs.{needs}
 use lib.ListN.{length, drop, length-drop}
@@ -15,12 +15,6 @@ use Rattle.frame.specs.Answers.{formatOf, numberOf, frameWith, readingOf}
 use Rattle.recording_reader.proofs.ScanLaws.{part-read, Counted, counted-start, counted-step, counted-stop, counted-end}
 use Rattle.recording_reader.proofs.scan_frames.Statement.{statement}
 use Rattle.recording_reader.proofs.scan_frames.Tie as tie
-use Rattle.recording_reader.proofs.scan_frames.Reads as reads
-use Rattle.recording_reader.proofs.scan_frames.Lts as lts
-use Rattle.frame.proofs.table.octets_of.Reads as octets-of-reads
-use Rattle.frame_reader.proofs.read_front.Reads as read-front-reads
-use Rattle.recording_reader.proofs.handed_on.Reads as handed-on-reads
-use Rattle.recording_reader.proofs.header_octets.Reads as header-octets-reads
 
 abbrev Inv-loop : tie.InvT-loop
 Inv-loop f g s at₀ k₀ need₀ at k need = Counted (formatOf f) (formatOf g) s at k need

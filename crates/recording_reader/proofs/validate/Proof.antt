@@ -6,10 +6,6 @@ use Rattle.recording_reader.specs.Answers.{countsOf}
 use Rattle.recording_reader.proofs.CallLaws.{found-is, found-none, unknown-format, refused-recording, valid-recording}
 use Rattle.recording_reader.proofs.validate.Statement.{statement}
 use Rattle.recording_reader.proofs.validate.Tie as tie
-use Rattle.recording_reader.proofs.validate.Reads as reads
-use Rattle.recording_reader.proofs.validate.Lts as lts
-use Rattle.frame.proofs.format_numbered.Reads as format-numbered-reads
-use Rattle.recording_reader.proofs.read_all.Reads as read-all-reads
 
 format-numbered-requires : tie.Need-format-numbered-requires
 format-numbered-requires c κs = search needs

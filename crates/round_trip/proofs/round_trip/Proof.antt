@@ -6,9 +6,6 @@ use Rattle.recording_reader.specs.Answers.{countsOf}
 use Rattle.round_trip.proofs.TripLaws.{stays, mid-long, comes-back}
 use Rattle.round_trip.proofs.round_trip.Statement.{statement}
 use Rattle.round_trip.proofs.round_trip.Tie as tie
-use Rattle.round_trip.proofs.round_trip.Reads as reads
-use Rattle.round_trip.proofs.round_trip.Lts as lts
-use Rattle.converter.proofs.convert.Reads as convert-reads
 
 convert-requires : tie.Need-convert-requires
 convert-requires c κs = search needs

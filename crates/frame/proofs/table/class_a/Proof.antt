@@ -5,9 +5,6 @@ use native.Mathlib.Omega.{arith}
 use Rattle.frame.proofs.Types.{class-most}
 use Rattle.frame.proofs.table.class_a.Statement.{statement}
 use Rattle.frame.proofs.table.class_a.Tie as tie
-use Rattle.frame.proofs.table.class_a.Reads as reads
-use Rattle.frame.proofs.table.class_a.Lts as lts
-use Rattle.frame.proofs.table.row.Reads as row-reads
 
 row-requires : tie.Need-row-requires
 row-requires c κs = search needs

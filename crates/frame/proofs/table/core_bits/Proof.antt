@@ -5,9 +5,6 @@ use native.Mathlib.Omega.{arith}
 use Rattle.frame.proofs.Types.{core-most}
 use Rattle.frame.proofs.table.core_bits.Statement.{statement}
 use Rattle.frame.proofs.table.core_bits.Tie as tie
-use Rattle.frame.proofs.table.core_bits.Reads as reads
-use Rattle.frame.proofs.table.core_bits.Lts as lts
-use Rattle.frame.proofs.table.row.Reads as row-reads
 
 row-requires : tie.Need-row-requires
 row-requires c κs = search needs

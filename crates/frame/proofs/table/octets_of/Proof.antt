@@ -7,9 +7,6 @@ use Rattle.frame.specs.Answers.{formatOf}
 use Rattle.frame.proofs.Types.{octets-most}
 use Rattle.frame.proofs.table.octets_of.Statement.{statement}
 use Rattle.frame.proofs.table.octets_of.Tie as tie
-use Rattle.frame.proofs.table.octets_of.Reads as reads
-use Rattle.frame.proofs.table.octets_of.Lts as lts
-use Rattle.frame.proofs.table.row.Reads as row-reads
 
 row-requires : tie.Need-row-requires
 row-requires c κs = search needs

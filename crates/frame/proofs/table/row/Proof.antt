@@ -6,9 +6,6 @@ use Rattle.frame.specs.Rows.{rowFor}
 use Rattle.frame.proofs.Types.{no-row}
 use Rattle.frame.proofs.table.row.Statement.{statement}
 use Rattle.frame.proofs.table.row.Tie as tie
-use Rattle.frame.proofs.table.row.Reads as reads
-use Rattle.frame.proofs.table.row.Lts as lts
-use Rattle.frame.proofs.table.row_of.Reads as row-of-reads
 
 row-of-requires : tie.Need-row-of-requires
 row-of-requires c κs = search needs
