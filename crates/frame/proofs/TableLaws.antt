@@ -1,15 +1,17 @@
 -- What the code's table says of a type that is read or given: whether it is reserved, and how its octets are filled. Assumes nothing.
 use mathlib.Core.Path.{_≡_, refl, ap}
-use mathlib.Core.Bool.{Bool, true, false, not, _||_, cond}
+use mathlib.Core.Bool.{Bool, true, false, not, _&&_, _||_, cond}
 use mathlib.Core.List.{List}
-use Prim.Native.Nat.{ℕ, _+_, _*_, _<_, _≤_}
+use Prim.Native.Nat.{ℕ, _+_, _*_, _/_, _^_, _<_, _≤_}
+use lib.Bits.{bitAnd}
 use native.Mathlib.Omega.{arith}
 use lib.Dec.{eqb, leb}
 use borrow.Author.Tests.{leb-true, eqb-true}
 use Rattle.bits.proofs.BitLaws.{num-lt}
-use Rattle.bits.proofs.Tests.{given, every-below}
-use Rattle.definitions.specs.Frames.{Format, if1, if2, storage, known, coreBits, octets, carriesModes, headerBits, typeIn}
+use Rattle.bits.proofs.Tests.{and-left, and-right, given, every-below}
+use Rattle.definitions.specs.Frames.{Format, if1, if2, storage, known, coreBits, octets, carriesModes, headerBits, fillBits, typeIn}
 use Rattle.definitions.proofs.Tables.{known-below, sized}
+use Rattle.frame.specs.Rows.{fillWord}
 
 -- a type without octets is reserved
 reserved-test : Format → ℕ → Bool
@@ -60,3 +62,16 @@ sid-core = refl
 pub sid-known : known 9 ≡ true
 unfolding known
 sid-known = refl
+
+-- a digit of `fillWord`
+fill-test : Format → ℕ → Bool
+fill-test f t = eqb (bitAnd (fillWord f / 2 ^ (4 * t)) 7) (fillBits f t) && leb (fillBits f t) 7
+
+pub fill-digit : (f : Format) (t : ℕ) → known t ≡ true → (bitAnd (fillWord f / 2 ^ (4 * t)) 7 ≡ fillBits f t) × (fillBits f t ≤ 7)
+unfolding fill-test fillWord octets coreBits
+fill-digit f t k = (eqb-true _ _ (and-left _ _ (tested f)), leb-true _ _ (and-right (eqb (bitAnd (fillWord f / 2 ^ (4 * t)) 7) (fillBits f t)) _ (tested f)))
+  where
+    tested : (f : Format) → fill-test f t ≡ true
+    tested if1 = every-below 16 (fill-test if1) refl t (known-below t k)
+    tested if2 = every-below 16 (fill-test if2) refl t (known-below t k)
+    tested storage = every-below 16 (fill-test storage) refl t (known-below t k)

@@ -3,9 +3,10 @@
 use crate::Format;
 ghost use mathlib.Core.Path.{_≡_};
 ghost use Prim.Native.Nat.{_<_, _≤_};
-ghost use Rattle.definitions.specs.Frames.{coreBits, classA, octets, carriesModes, headerBits, spareBefore, spareAfter};
+ghost use mathlib.Core.Bool.{true};
+ghost use Rattle.definitions.specs.Frames.{known, coreBits, classA, octets, carriesModes, headerBits, fillBits, spareBefore, spareAfter};
 ghost use Rattle.frame.specs.Answers.{formatOf};
-ghost use Rattle.frame.specs.Rows.{rowWith, rowFor};
+ghost use Rattle.frame.specs.Rows.{rowWith, rowFor, fillWord};
 
 // A row of the table: K, Class A, and the octets in IF1, IF2 and storage format.
 struct TypeRow {
@@ -89,6 +90,25 @@ pub fn header_bits(f: Format, t: usize) -> usize
         Format::If2 => 5,
         Format::Storage => 8,
     }
+}
+
+// The filling bits of every type's frames, four bits for each, type 0 in the lowest.
+fn fill_word(f: Format) -> u64
+    ensures { λ r. ⌜ r ≡ fillWord (formatOf f) ⌝ }
+{
+    match f {
+        Format::If1 => 0x0000_0003_3333_3374,
+        Format::If2 => 0x3300_0036_6666_6627,
+        Format::Storage => 0x0000_0003_3333_3374,
+    }
+}
+
+// The filling bits behind the core. By shifts, since the scan of a recording asks it for every frame.
+pub fn fill_bits(f: Format, t: usize) -> usize
+    requires { ⌜ known t ≡ true ⌝ }
+    ensures { λ r. ⌜ (r ≡ fillBits (formatOf f) t) × (r ≤ 7) ⌝ }
+{
+    ((fill_word(f) >> (4 * t)) & 7) as usize
 }
 
 // Whether a frame carries indication, request and CRC.

@@ -1,6 +1,6 @@
 -- The sizes of a core in each format, and where the source's bits are the core and its zeros. Assumes nothing.
 use mathlib.Core.Path.{_≡_, refl, sym, ap, ap₂, _∙_, subst}
-use mathlib.Core.Bool.{Bool, true, false, _&&_}
+use mathlib.Core.Bool.{Bool, true, false, _&&_, cond}
 use mathlib.Core.Logic.{_≢_, inl, inr}
 use mathlib.Core.List.{List, _++_}
 use Prim.Native.Nat.{ℕ, _+_, _-_, _*_, _/_, _<_, _≤_}
@@ -14,9 +14,19 @@ use Rattle.bits.proofs.BitLaws.{length-bits}
 use Rattle.bits.proofs.Tests.{and-left, and-right, every-below}
 use Rattle.definitions.specs.Frames.{Format, if1, if2, storage, Frame, known, coreBits, octets, coreOctets, headerBits, fillBits}
 use Rattle.frame.proofs.TableLaws.{room}
-use Rattle.frame_carrier.specs.Carriable.{coreAt, behind, Ends, Moves, Carriable}
+use Rattle.frame_carrier.specs.Carriable.{isIf2, coreAt, behind, Ends, Moves, Carriable}
 use Rattle.frame_carrier.proofs.PackLaws.{packs-padded, copied-octets}
 use Rattle.frame_carrier.proofs.CarryLaws.{source-core}
+
+-- ---- whether a format is IF2
+
+pub if2-is : (f : Format) → isIf2 f ≡ true → f ≡ if2
+if2-is if1 e = absurd (let z : _≡_ {A = ℕ} 0 1 = cc in omega arith)
+if2-is if2 e = refl
+if2-is storage e = absurd (let z : _≡_ {A = ℕ} 0 1 = cc in omega arith)
+
+pub if2-not : (f : Format) → isIf2 f ≡ false → f ≢ if2
+if2-not f e q = let b : true ≡ false = ap isIf2 (sym q) ∙ e in absurd (let z : _≡_ {A = ℕ} 0 1 = cc in omega arith)
 
 -- ---- sizes
 
@@ -166,13 +176,12 @@ module _ (t k n : ℕ) (h : t ≤ 9) (ek : k ≡ coreBits t) (en : n ≡ octets 
       count-down ((k + 7) / 8) n (some-octet .0) (omega (arith, core-octets, s .in-if2)) (omega (arith, core-octets, s .most-if2)) ∙ core-octets
 
   -- to IF2
-  pub moves-up : (f g : Format) (i : ℕ) → f ≢ g → g ≡ if2 → i ≡ coreAt f → Moves f g t i 3 ((k + 7) / 8 - 1) (ltb ((k + 7) / 8) n) 1
-  moves-up f g i o eg ei =
+  up-move : (f : Format) → f ≢ if2 → Moves f if2 t (coreAt f) 3 ((k + 7) / 8 - 1) (ltb ((k + 7) / 8) n) 1
+  up-move f nf =
       let s = sizes t h in
       let b = core-at-most f in
-      let nf : f ≢ if2 = λ e. o (e ∙ sym eg) in
       let a = aligned-header f t nf h in
-      subst (λ g. Moves f g t i 3 ((k + 7) / 8 - 1) (ltb ((k + 7) / 8) n) 1) (sym eg) (record {
+      record {
         shift = inl refl;
         start = refl;
         count = omega (arith, up, s .some, s .in-if2);
@@ -181,31 +190,45 @@ module _ (t k n : ℕ) (h : t ≤ 9) (ek : k ≡ coreBits t) (en : n ≡ octets 
         ends = λ src out x ex c. (
           fillBits f t,
           after f if2 t src out x h ex c,
-          subst (λ q. Ends src q 3 ((k + 7) / 8 - 1) (drop 3 (x .core)) (fillBits f t) (after f if2 t src out x h ex c)) (sym ei)
-              (subst (λ q. Ends src (coreAt f) 3 (q - 1) (drop 3 (x .core)) (fillBits f t) (after f if2 t src out x h ex c)) (sym core-octets) (whole-ends f if2 t src out x h ex c nf)),
+          subst (λ q. Ends src (coreAt f) 3 (q - 1) (drop 3 (x .core)) (fillBits f t) (after f if2 t src out x h ex c)) (sym core-octets) (whole-ends f if2 t src out x h ex c nf),
         );
-      })
+      }
 
   -- from IF2
-  pub moves-down : (f g : Format) (j : ℕ) → f ≢ g → f ≡ if2 → j ≡ coreAt g → Moves f g t 0 5 (n - 1) (leb n ((k + 7) / 8)) j
-  moves-down f g j o ef ej =
+  down-move : (g : Format) → g ≢ if2 → Moves if2 g t 0 5 (n - 1) (leb n ((k + 7) / 8)) (coreAt g)
+  down-move g ng =
       let s = sizes t h in
       let b = core-at-most g in
-      let ng : g ≢ if2 = λ e. o (ef ∙ sym e) in
       let a = aligned-header g t ng h in
-      subst (λ f. Moves f g t 0 5 (n - 1) (leb n ((k + 7) / 8)) j) (sym ef) (record {
+      record {
         shift = inr refl;
-        start = ej;
-        count = omega (arith, down, a .1, ej);
+        start = refl;
+        count = omega (arith, down, a .1);
         inside = omega (arith, some-octet .1, en);
-        near = (omega (arith, s .most-if2, s .few, en), omega (arith, s .most-if2, s .few, b, en, ej));
+        near = (omega (arith, s .most-if2, s .few, en), omega (arith, s .most-if2, s .few, b, en));
         ends = λ src out x ex c. (
           fillBits if2 t,
           after if2 g t src out x h ex c,
           subst (λ w. Ends src 0 5 (n - 1) w (fillBits if2 t) (after if2 g t src out x h ex c)) (sym (behind-whole g (x .core) ng))
               (subst (λ q. Ends src 0 5 (q - 1) (x .core) (fillBits if2 t) (after if2 g t src out x h ex c)) (sym en) (if2-ends g t src out x h ex c)),
         );
-      })
+      }
+
+  -- what `plan` answers: place and shift by the formats
+  module _ (f g : Format) (i a j : ℕ) (o : f ≢ g) (ei : i ≡ cond (isIf2 g) (coreAt f) 0) (ea : a ≡ cond (isIf2 g) 3 5) (ej : j ≡ coreAt g) where
+    placed : (c : ℕ) (l : Bool) → Moves f g t (cond (isIf2 g) (coreAt f) 0) (cond (isIf2 g) 3 5) c l (coreAt g) → Moves f g t i a c l j
+    placed c l m =
+        subst (λ q. Moves f g t q a c l j) (sym ei) (subst (λ q. Moves f g t (cond (isIf2 g) (coreAt f) 0) q c l j) (sym ea) (subst (λ q. Moves f g t (cond (isIf2 g) (coreAt f) 0) (cond (isIf2 g) 3 5) c l q) (sym ej) m))
+
+    pub moves-up : isIf2 g ≡ true → Moves f g t i a ((k + 7) / 8 - 1) (ltb ((k + 7) / 8) n) j
+    moves-up e =
+        placed _ _ (subst (λ g. Moves f g t (cond (isIf2 g) (coreAt f) 0) (cond (isIf2 g) 3 5) ((k + 7) / 8 - 1) (ltb ((k + 7) / 8) n) (coreAt g)) (sym (if2-is g e)) (up-move f (λ z. o (z ∙ sym (if2-is g e)))))
+
+    pub moves-down : isIf2 g ≡ false → f ≡ if2 → Moves f g t i a (n - 1) (leb n ((k + 7) / 8)) j
+    moves-down e z =
+        placed _ _
+        (subst (λ b. Moves f g t (cond b (coreAt f) 0) (cond b 3 5) (n - 1) (leb n ((k + 7) / 8)) (coreAt g)) (sym e)
+            (subst (λ f. Moves f g t 0 5 (n - 1) (leb n ((k + 7) / 8)) (coreAt g)) (sym z) (down-move g (λ w. o (z ∙ sym w)))))
 
   module _ (f g : Format) (i j : ℕ) (src out : List ℕ) (x : Frame) (nf : f ≢ if2) (ng : g ≢ if2) (ei : i ≡ coreAt f) (ej : j ≡ coreAt g) (ex : x .type ≡ t)
       (c : Carriable f g src x out) where

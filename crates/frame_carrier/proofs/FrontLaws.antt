@@ -23,15 +23,7 @@ use Rattle.recordings.specs.Conversion.{withModes, withoutModes, carried}
 use Rattle.frame_builder.proofs.BuilderLaws.{firstBits, long-header, octets-three, second-octet}
 use Rattle.frame_carrier.specs.Carriable.{isIf2, coreAt, behind, Carriable, CoreMoved}
 use Rattle.frame_carrier.proofs.CarryLaws.{frameBits, layout-packs, joined}
-use Rattle.frame_carrier.proofs.CoreLaws.{sizes, aligned-header, source-long, whole-stream}
-
-pub if2-is : (f : Format) → isIf2 f ≡ true → f ≡ if2
-if2-is if1 e = absurd (let z : _≡_ {A = ℕ} 0 1 = cc in omega arith)
-if2-is if2 e = refl
-if2-is storage e = absurd (let z : _≡_ {A = ℕ} 0 1 = cc in omega arith)
-
-pub if2-not : (f : Format) → isIf2 f ≡ false → f ≢ if2
-if2-not f e q = let b : true ≡ false = ap isIf2 (sym q) ∙ e in absurd (let z : _≡_ {A = ℕ} 0 1 = cc in omega arith)
+use Rattle.frame_carrier.proofs.CoreLaws.{if2-is, if2-not, sizes, aligned-header, source-long, whole-stream}
 
 -- ---- numbers of joined bits
 

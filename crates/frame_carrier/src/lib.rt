@@ -60,6 +60,20 @@ fn is_if2(f: Format) -> bool
     }
 }
 
+// From which octet of the source on a core is moved to IF2, or from it.
+fn from_at(f: Format, g: Format) -> usize
+    ensures { λ r. ⌜ r ≡ cond (isIf2 (formatOf g)) (coreAt (formatOf f)) 0 ⌝ }
+{
+    if is_if2(g) { core_at(f) } else { 0 }
+}
+
+// From which bit of that octet on.
+fn shift_to(g: Format) -> usize
+    ensures { λ r. ⌜ r ≡ cond (isIf2 (formatOf g)) 3 5 ⌝ }
+{
+    if is_if2(g) { 3 } else { 5 }
+}
+
 // How a core is moved to IF2 or from it: from which octet and bit, how many octets, whether one more is what is left of the source's last,
 // and to which octet.
 struct Move {
@@ -70,26 +84,28 @@ struct Move {
     to: usize,
 }
 
+// Octets and bit come from the formats alone: the compiler finds them once for a whole recording.
 fn plan(f: Format, g: Format, t: usize) -> Move
     requires { ⌜ (t ≤ 9) × (formatOf f ≢ formatOf g) × (isIf2 (formatOf g) ≡ false → formatOf f ≡ if2) ⌝ }
     ensures { λ p. ⌜ Moves (formatOf f) (formatOf g) t (p .from) (p .shift) (p .count) (p .last) (p .to) ⌝ }
 {
     let m = (core_bits(t) + 7) / 8;
     let n = octets_of(Format::If2, t);
+    let from = from_at(f, g);
+    let shift = shift_to(g);
+    let to = core_at(g);
     if is_if2(g) {
-        let from = core_at(f);
         return Move {
             from,
-            shift: 3,
+            shift,
             count: m - 1,
             last: m < n,
-            to: 1,
+            to,
         };
     }
-    let to = core_at(g);
     Move {
-        from: 0,
-        shift: 5,
+        from,
+        shift,
         count: n - 1,
         last: n <= m,
         to,

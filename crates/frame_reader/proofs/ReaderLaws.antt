@@ -14,7 +14,7 @@ use Rattle.bits.proofs.BitLaws.{num-within, bits-drop, octet-field}
 use Rattle.bits.proofs.Tests.{every-below}
 use Rattle.parity.specs.Crc.{crc}
 use Rattle.definitions.specs.Outcome.{refused, ok}
-use Rattle.definitions.specs.Frames.{Format, known, coreBits, classA, octets, carriesModes, headerBits, spareBefore, spareAfter, typeIn, qualityIn, coreIn, frameIn, fillClear, spareClear, fieldsGood, crcGood}
+use Rattle.definitions.specs.Frames.{Format, known, coreBits, classA, octets, carriesModes, headerBits, spareBefore, spareAfter, typeIn, qualityIn, coreIn, frameIn, fillBits, fillClear, spareClear, fieldsGood, crcGood}
 use Rattle.definitions.specs.Reading.{readWith}
 use Rattle.frame.specs.Answers.{frameWith}
 use Rattle.frame.specs.declared.FrameHeader.{FrameHeader}
@@ -39,12 +39,12 @@ storage-mask x h = go (eqb (bitAnd x 0x83) 0) (eqb (x / 2 ^ 7 % 2 ^ 1) 0 && eqb 
     go true false e = absurd (let z : _≡_ {A = ℕ} 0 1 = cc in omega arith)
     go false true e = absurd (let z : _≡_ {A = ℕ} 0 1 = cc in omega arith)
 
--- `fill_clear`: n octets, of which the header and the core take the bits before end
-pub fill-is : (f : Format) (t : ℕ) (s : List ℕ) (n end r : ℕ) → n ≡ octets f t → end ≡ headerBits f t + coreBits t → end ≤ 8 * n
-    → r ≡ num (8 * n - end) (drop (8 * n - (8 * n - end)) (bits s)) → eqb r 0 ≡ fillClear f t (bits s)
-fill-is f t s n end r en ee h er =
-    let back : 8 * n - (8 * n - end) ≡ end = omega arith in
-    ap (λ x. eqb x 0) (er ∙ ap (λ k. num (8 * n - end) (drop k (bits s))) back ∙ ap₂ (λ m e. num (8 * m - e) (drop e (bits s))) en ee)
+-- `fill_clear`: n octets, of which the last k bits are the filling
+pub fill-is : (f : Format) (t : ℕ) (s : List ℕ) (n k r : ℕ) → n ≡ octets f t → k ≡ fillBits f t → headerBits f t + coreBits t ≤ 8 * octets f t
+    → r ≡ num k (drop (8 * n - k) (bits s)) → eqb r 0 ≡ fillClear f t (bits s)
+fill-is f t s n k r en ek h er =
+    let back : 8 * octets f t - fillBits f t ≡ headerBits f t + coreBits t = omega arith in
+    ap (λ x. eqb x 0) (er ∙ ap₂ (λ m j. num j (drop (8 * m - j) (bits s))) en ek ∙ ap (λ j. num (fillBits f t) (drop j (bits s))) back)
 
 -- `sid_mode`
 pub sid-is : (f : Format) (bs : List Bool) → num 4 (drop (headerBits f 9 + 36) bs) ≡ num 4 (drop 36 (coreIn f 9 bs))

@@ -10,6 +10,7 @@ use frame::format_numbered;
 use frame::table::carries_modes;
 use frame::table::class_a;
 use frame::table::core_bits;
+use frame::table::fill_bits;
 use frame::table::header_bits;
 use frame::table::octets_of;
 ghost use mathlib.Core.Path.{_≡_};
@@ -119,8 +120,7 @@ fn fill_clear(f: Format, s: &[u8], t: usize, n: usize) -> bool
     requires { ⌜ (known t ≡ true) × (n ≡ octets (formatOf f) t) × (n ≤ length (now s)) ⌝ }
     ensures { λ r. ⌜ r ≡ fillClear (formatOf f) t (bits (now (s .entry))) ⌝ }
 {
-    let end = header_bits(f, t) + core_bits(t);
-    bits::low_bits(s, n, 8 * n - end) == 0
+    bits::low_bits(s, n, fill_bits(f, t)) == 0
 }
 
 // Refusal 5's test.
@@ -235,12 +235,23 @@ fn plain_octets(f: Format, s: &[u8]) -> usize
     if sid_fine(f, s, k) { size } else { 0 }
 }
 
+// The same, with the format as a constant in each call: the compiler then makes the tests of each format without asking for it again.
+fn plain_front(f: Format, s: &[u8]) -> usize
+    ensures { λ n. ⌜ (0 < n → Plain (formatOf f) (now (s .entry)) n) ⌝ }
+{
+    match f {
+        Format::If1 => plain_octets(Format::If1, s),
+        Format::If2 => plain_octets(Format::If2, s),
+        Format::Storage => plain_octets(Format::Storage, s),
+    }
+}
+
 // The frame at the start of `s`, where more may follow; its count is the octets that it takes. Plain frames come first: they are the most,
 // and this way is short enough to become part of the loop that calls it.
 pub fn read_front(f: Format, s: &[u8]) -> Reading
     ensures { λ r. ⌜ readingOf (λ t. coreIn (formatOf f) t (bits (now (s .entry)))) r ≡ readFrame (formatOf f) (now (s .entry)) ⌝ }
 {
-    let n = plain_octets(f, s);
+    let n = plain_front(f, s);
     if 0 < n {
         let h = FrameHeader {
             frame_type: type_in(f, s),

@@ -101,18 +101,6 @@ fn scan_frames(f: Format, g: Format, s: &[u8]) -> Counts
     Counts::Done(k, need)
 }
 
-// The same, with the format as a constant in each call: the compiler then makes a loop for each, without tests of the format.
-fn scan(f: Format, g: Format, s: &[u8]) -> Counts
-    requires { ⌜ (length (fileHeader (formatOf f)) ≤ length (now s)) × (length (now s) ≤ limit) ⌝ }
-    ensures { λ a. ⌜ ((r : ℕ) → countsOf a ≡ andThenAt (scanFrames (formatOf f) (now (s .entry))) (λ xs. done (length xs, length (converted (formatOf f) (formatOf g) r xs)))) ⌝ }
-{
-    match f {
-        Format::If1 => scan_frames(Format::If1, g, s),
-        Format::If2 => scan_frames(Format::If2, g, s),
-        Format::Storage => scan_frames(Format::Storage, g, s),
-    }
-}
-
 // Reads a whole recording: its frames, and the octets that a conversion to `g` writes.
 pub fn read_all(f: Format, g: Format, s: &[u8]) -> Counts
     ensures { λ a. ⌜ ((r : ℕ) → countsOf a ≡ andThenAt (readRecording (formatOf f) (now (s .entry))) (λ xs. done (length xs, length (converted (formatOf f) (formatOf g) r xs)))) ⌝ }
@@ -123,7 +111,7 @@ pub fn read_all(f: Format, g: Format, s: &[u8]) -> Counts
     if !headed(f, s) {
         return Counts::Refused(Refusal::StorageHeader, 0, 0);
     }
-    scan(f, g, s)
+    scan_frames(f, g, s)
 }
 
 // Validates a recording: how many frames it has, or the refusal with its place. An entry.
