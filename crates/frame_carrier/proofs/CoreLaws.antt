@@ -214,21 +214,26 @@ module _ (t k n : ℕ) (h : t ≤ 9) (ek : k ≡ coreBits t) (en : n ≡ octets 
         );
       }
 
-  -- what `plan` answers: place and shift by the formats
-  module _ (f g : Format) (i a j : ℕ) (o : f ≢ g) (ei : i ≡ cond (isIf2 g) (coreAt f) 0) (ea : a ≡ cond (isIf2 g) 3 5) (ej : j ≡ coreAt g) where
-    placed : (c : ℕ) (l : Bool) → Moves f g t (cond (isIf2 g) (coreAt f) 0) (cond (isIf2 g) 3 5) c l (coreAt g) → Moves f g t i a c l j
-    placed c l m =
-        subst (λ q. Moves f g t q a c l j) (sym ei) (subst (λ q. Moves f g t (cond (isIf2 g) (coreAt f) 0) q c l j) (sym ea) (subst (λ q. Moves f g t (cond (isIf2 g) (coreAt f) 0) (cond (isIf2 g) 3 5) c l q) (sym ej) m))
+  -- what `plan` answers, where b says whether g is IF2
+  abbrev Planned : Bool → (f g : Format) → Type 0
+  Planned b f g =
+      Moves f g t (cond b (coreAt f) 0) (cond b 3 5) (cond b ((k + 7) / 8) n - 1) (cond b (ltb ((k + 7) / 8) n) (leb n ((k + 7) / 8))) (coreAt g)
 
-    pub moves-up : isIf2 g ≡ true → Moves f g t i a ((k + 7) / 8 - 1) (ltb ((k + 7) / 8) n) j
-    moves-up e =
-        placed _ _ (subst (λ g. Moves f g t (cond (isIf2 g) (coreAt f) 0) (cond (isIf2 g) 3 5) ((k + 7) / 8 - 1) (ltb ((k + 7) / 8) n) (coreAt g)) (sym (if2-is g e)) (up-move f (λ z. o (z ∙ sym (if2-is g e)))))
+  module _ (f g : Format) (o : f ≢ g) (one : isIf2 g ≡ false → f ≡ if2) where
+    planned : (b : Bool) → isIf2 g ≡ b → Planned b f g
+    planned true e = subst (Planned true f) (sym (if2-is g e)) (up-move f (λ z. o (z ∙ sym (if2-is g e))))
+    planned false e = subst (λ f. Planned false f g) (sym (one e)) (down-move g (λ z. o (one e ∙ sym z)))
 
-    pub moves-down : isIf2 g ≡ false → f ≡ if2 → Moves f g t i a (n - 1) (leb n ((k + 7) / 8)) j
-    moves-down e z =
-        placed _ _
-        (subst (λ b. Moves f g t (cond b (coreAt f) 0) (cond b 3 5) (n - 1) (leb n ((k + 7) / 8)) (coreAt g)) (sym e)
-            (subst (λ f. Moves f g t 0 5 (n - 1) (leb n ((k + 7) / 8)) (coreAt g)) (sym z) (down-move g (λ w. o (z ∙ sym w)))))
+    pub some-source : 1 ≤ cond (isIf2 g) ((k + 7) / 8) n
+    some-source = go (isIf2 g)
+      where
+        go : (b : Bool) → 1 ≤ cond b ((k + 7) / 8) n
+        go true = some-octet .0
+        go false = some-octet .1
+
+    pub moves : (i a c j : ℕ) (l : Bool) → i ≡ cond (isIf2 g) (coreAt f) 0 → a ≡ cond (isIf2 g) 3 5 → c ≡ cond (isIf2 g) ((k + 7) / 8) n
+        → l ≡ cond (isIf2 g) (ltb ((k + 7) / 8) n) (leb n ((k + 7) / 8)) → j ≡ coreAt g → Moves f g t i a (c - 1) l j
+    moves i a c j l ei ea ec el ej = rw (ei, ea, ec, el, ej) (planned (isIf2 g) refl)
 
   module _ (f g : Format) (i j : ℕ) (src out : List ℕ) (x : Frame) (nf : f ≢ if2) (ng : g ≢ if2) (ei : i ≡ coreAt f) (ej : j ≡ coreAt g) (ex : x .type ≡ t)
       (c : Carriable f g src x out) where

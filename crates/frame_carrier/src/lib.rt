@@ -12,7 +12,7 @@ ghost use mathlib.Core.Bool.{Bool, false, not, _&&_, cond};
 ghost use mathlib.Core.Logic.{_≢_};
 ghost use mathlib.Core.List.{List, _∷_, _++_};
 ghost use Prim.Native.Nat.{ℕ, _+_, _*_, _<_, _≤_};
-ghost use lib.Dec.{leb};
+ghost use lib.Dec.{leb, ltb};
 ghost use lib.ListN.{length, take, drop};
 ghost use Rattle.bits.specs.Bits.{num, bits, packs, one-if};
 ghost use Rattle.parity.specs.Crc.{crc};
@@ -74,6 +74,20 @@ fn shift_to(g: Format) -> usize
     if is_if2(g) { 3 } else { 5 }
 }
 
+// How many octets of the source the moved bits lie in, of a core of `m` octets that takes `n` in IF2.
+fn source_octets(g: Format, m: usize, n: usize) -> usize
+    ensures { λ r. ⌜ r ≡ cond (isIf2 (formatOf g)) m n ⌝ }
+{
+    if is_if2(g) { m } else { n }
+}
+
+// Whether the last octet comes from what is left of the source's last.
+fn last_left(g: Format, m: usize, n: usize) -> bool
+    ensures { λ r. ⌜ r ≡ cond (isIf2 (formatOf g)) (ltb m n) (leb n m) ⌝ }
+{
+    if is_if2(g) { m < n } else { n <= m }
+}
+
 // How a core is moved to IF2 or from it: from which octet and bit, how many octets, whether one more is what is left of the source's last,
 // and to which octet.
 struct Move {
@@ -84,7 +98,7 @@ struct Move {
     to: usize,
 }
 
-// Octets and bit come from the formats alone: the compiler finds them once for a whole recording.
+// Each field is a choice of its own: so the compiler makes those that come from the formats alone once for a whole recording.
 fn plan(f: Format, g: Format, t: usize) -> Move
     requires { ⌜ (t ≤ 9) × (formatOf f ≢ formatOf g) × (isIf2 (formatOf g) ≡ false → formatOf f ≡ if2) ⌝ }
     ensures { λ p. ⌜ Moves (formatOf f) (formatOf g) t (p .from) (p .shift) (p .count) (p .last) (p .to) ⌝ }
@@ -94,20 +108,12 @@ fn plan(f: Format, g: Format, t: usize) -> Move
     let from = from_at(f, g);
     let shift = shift_to(g);
     let to = core_at(g);
-    if is_if2(g) {
-        return Move {
-            from,
-            shift,
-            count: m - 1,
-            last: m < n,
-            to,
-        };
-    }
+    let last = last_left(g, m, n);
     Move {
         from,
         shift,
-        count: n - 1,
-        last: n <= m,
+        count: source_octets(g, m, n) - 1,
+        last,
         to,
     }
 }
