@@ -3,7 +3,7 @@ use frame::Format;
 use frame::FormatFound;
 use frame::Refusal;
 use frame::format_numbered;
-use frame::table::octets_of;
+use frame::table::octets_by_bits;
 use frame_carrier::carry_frame;
 use frame_reader::type_in;
 use recording_reader::Counts;
@@ -67,8 +67,8 @@ fn write_frames(f: Format, g: Format, r: u8, s: &[u8], out: &mut [u8])
         let front = &s[at..];
         let t = type_in(f, front) as usize;
         carry_frame(f, g, r, front, &mut out[to..]);
-        at += octets_of(f, t);
-        to += octets_of(g, t);
+        at += octets_by_bits(f, t);
+        to += octets_by_bits(g, t);
     }
 }
 

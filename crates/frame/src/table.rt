@@ -92,6 +92,15 @@ pub fn header_bits(f: Format, t: usize) -> usize
     }
 }
 
+// The octets of a frame whose type is not reserved, by its bits: where the format changes from call to call, that is a number to add and
+// not a choice of columns.
+pub fn octets_by_bits(f: Format, t: usize) -> usize
+    requires { ⌜ known t ≡ true ⌝ }
+    ensures { λ r. ⌜ r ≡ octets (formatOf f) t ⌝ }
+{
+    (header_bits(f, t) + core_bits(t) + 7) / 8
+}
+
 // The filling bits of every type's frames, four bits for each, type 0 in the lowest.
 fn fill_word(f: Format) -> u64
     ensures { λ r. ⌜ r ≡ fillWord (formatOf f) ⌝ }

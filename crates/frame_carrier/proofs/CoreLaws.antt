@@ -1,6 +1,6 @@
 -- The sizes of a core in each format, and where the source's bits are the core and its zeros. Assumes nothing.
 use mathlib.Core.Path.{_≡_, refl, sym, ap, ap₂, _∙_, subst}
-use mathlib.Core.Bool.{Bool, true, false, _&&_, cond}
+use mathlib.Core.Bool.{Bool, true, false, not, _&&_, cond}
 use mathlib.Core.Logic.{_≢_, inl, inr}
 use mathlib.Core.List.{List, _++_}
 use Prim.Native.Nat.{ℕ, _+_, _-_, _*_, _/_, _<_, _≤_}
@@ -37,8 +37,12 @@ pub record Sizes (t : ℕ) : Type 0 where
   pub few : coreOctets t ≤ 60
   pub in-if1 : octets if1 t ≡ 3 + coreOctets t
   pub in-storage : octets storage t ≡ 1 + coreOctets t
-  pub in-if2 : coreOctets t ≤ octets if2 t
-  pub most-if2 : octets if2 t ≤ coreOctets t + 1
+  pub in-if2 : octets if2 t + one-if (eqb t 1) ≡ coreOctets t + 1
+  pub one : one-if (not (eqb t 1)) + one-if (eqb t 1) ≡ 1
+
+one-of : (b : Bool) → one-if (not b) + one-if b ≡ 1
+one-of true = refl
+one-of false = refl
 
 size-test : ℕ → Bool
 size-test t =
@@ -47,7 +51,7 @@ size-test t =
     && (leb 1 (coreOctets t)
     && (leb (coreOctets t) 60
     && (eqb (octets if1 t) (3 + coreOctets t)
-    && (eqb (octets storage t) (1 + coreOctets t) && (leb (coreOctets t) (octets if2 t) && leb (octets if2 t) (coreOctets t + 1)))))))
+    && (eqb (octets storage t) (1 + coreOctets t) && eqb (octets if2 t + one-if (eqb t 1)) (coreOctets t + 1))))))
 
 size-tested : (t : ℕ) → t < 10 → size-test t ≡ true
 unfolding size-test known coreBits octets
@@ -70,8 +74,8 @@ sizes t h =
       few = leb-true _ _ (and-left _ _ d);
       in-if1 = eqb-true _ _ (and-left _ _ e);
       in-storage = eqb-true _ _ (and-left _ _ f);
-      in-if2 = leb-true _ _ (and-left _ _ g);
-      most-if2 = leb-true _ _ (and-right (leb (coreOctets t) (octets if2 t)) _ g);
+      in-if2 = eqb-true _ _ g;
+      one = one-of (eqb t 1);
     }
 
 -- an octet-aligned format: not IF2
@@ -137,24 +141,8 @@ pub if2-ends : (g : Format) (t : ℕ) (src out : List ℕ) (x : Frame) (h : t �
     → Ends src 0 5 (octets if2 t - 1) (x .core) (fillBits if2 t) (after if2 g t src out x h ex c)
 if2-ends g t src out x h ex c = record {
   stream = stream if2 g t src out x h ex c;
-  border = omega (arith, filled if2 g t src out x h ex c, core-long if2 g t src out x h ex c, sizes t h .some, sizes t h .in-if2);
+  border = omega (arith, filled if2 g t src out x h ex c, core-long if2 g t src out x h ex c, sizes t h .some, sizes t h .in-if2, sizes t h .one);
 }
-
--- ---- how many octets
-
-pub count-up : (m n : ℕ) → 1 ≤ m → m ≤ n → n ≤ m + 1 → m - 1 + one-if (ltb m n) ≡ n - 1
-count-up m n s l k = go (ltb m n) refl
-  where
-    go : (b : Bool) → ltb m n ≡ b → m - 1 + one-if b ≡ n - 1
-    go true e = omega (arith, ltb-true m n e)
-    go false e = omega (arith, ltb-false m n e)
-
-pub count-down : (m n : ℕ) → 1 ≤ m → m ≤ n → n ≤ m + 1 → n - 1 + one-if (leb n m) ≡ m
-count-down m n s l k = go (leb n m) refl
-  where
-    go : (b : Bool) → leb n m ≡ b → n - 1 + one-if b ≡ m
-    go true e = omega (arith, leb-true n m e)
-    go false e = omega (arith, leb-false n m e)
 
 -- ---- what the movers ask and give, by the code's numbers: k bits of core, n octets in IF2, the core from octet i or j on
 
@@ -163,20 +151,10 @@ module _ (t k n : ℕ) (h : t ≤ 9) (ek : k ≡ coreBits t) (en : n ≡ octets 
   core-octets = ap (λ k. (k + 7) / 8) ek
 
   pub some-octet : (1 ≤ (k + 7) / 8) × (1 ≤ n)
-  some-octet = let s = sizes t h in (omega (arith, core-octets, s .some), omega (arith, s .some, s .in-if2))
-
-  up : (k + 7) / 8 - 1 + one-if (ltb ((k + 7) / 8) n) ≡ octets if2 t - 1
-  up =
-      let s = sizes t h in
-      count-up ((k + 7) / 8) n (some-octet .0) (omega (arith, core-octets, s .in-if2)) (omega (arith, core-octets, s .most-if2)) ∙ ap (λ m. m - 1) en
-
-  down : n - 1 + one-if (leb n ((k + 7) / 8)) ≡ coreOctets t
-  down =
-      let s = sizes t h in
-      count-down ((k + 7) / 8) n (some-octet .0) (omega (arith, core-octets, s .in-if2)) (omega (arith, core-octets, s .most-if2)) ∙ core-octets
+  some-octet = let s = sizes t h in (omega (arith, core-octets, s .some), omega (arith, s .some, s .in-if2, s .one))
 
   -- to IF2
-  up-move : (f : Format) → f ≢ if2 → Moves f if2 t (coreAt f) 3 ((k + 7) / 8 - 1) (ltb ((k + 7) / 8) n) 1
+  up-move : (f : Format) → f ≢ if2 → Moves f if2 t (coreAt f) 3 ((k + 7) / 8 - 1) (not (eqb t 1)) 1
   up-move f nf =
       let s = sizes t h in
       let b = core-at-most f in
@@ -184,7 +162,7 @@ module _ (t k n : ℕ) (h : t ≤ 9) (ek : k ≡ coreBits t) (en : n ≡ octets 
       record {
         shift = inl refl;
         start = refl;
-        count = omega (arith, up, s .some, s .in-if2);
+        count = omega (arith, core-octets, s .some, s .in-if2, s .one);
         inside = omega (arith, core-octets, a .1, s .some);
         near = (omega (arith, core-octets, s .few, b), omega (arith, core-octets, s .few));
         ends = λ src out x ex c. (
@@ -195,7 +173,7 @@ module _ (t k n : ℕ) (h : t ≤ 9) (ek : k ≡ coreBits t) (en : n ≡ octets 
       }
 
   -- from IF2
-  down-move : (g : Format) → g ≢ if2 → Moves if2 g t 0 5 (n - 1) (leb n ((k + 7) / 8)) (coreAt g)
+  down-move : (g : Format) → g ≢ if2 → Moves if2 g t 0 5 (n - 1) (eqb t 1) (coreAt g)
   down-move g ng =
       let s = sizes t h in
       let b = core-at-most g in
@@ -203,9 +181,9 @@ module _ (t k n : ℕ) (h : t ≤ 9) (ek : k ≡ coreBits t) (en : n ≡ octets 
       record {
         shift = inr refl;
         start = refl;
-        count = omega (arith, down, a .1);
+        count = omega (arith, a .1, s .some, s .in-if2, s .one, en);
         inside = omega (arith, some-octet .1, en);
-        near = (omega (arith, s .most-if2, s .few, en), omega (arith, s .most-if2, s .few, b, en));
+        near = (omega (arith, s .in-if2, s .few, en), omega (arith, s .in-if2, s .few, b, en));
         ends = λ src out x ex c. (
           fillBits if2 t,
           after if2 g t src out x h ex c,
@@ -217,7 +195,7 @@ module _ (t k n : ℕ) (h : t ≤ 9) (ek : k ≡ coreBits t) (en : n ≡ octets 
   -- what `plan` answers, where b says whether g is IF2
   abbrev Planned : Bool → (f g : Format) → Type 0
   Planned b f g =
-      Moves f g t (cond b (coreAt f) 0) (cond b 3 5) (cond b ((k + 7) / 8) n - 1) (cond b (ltb ((k + 7) / 8) n) (leb n ((k + 7) / 8))) (coreAt g)
+      Moves f g t (cond b (coreAt f) 0) (cond b 3 5) (cond b ((k + 7) / 8) n - 1) (cond b (not (eqb t 1)) (eqb t 1)) (coreAt g)
 
   module _ (f g : Format) (o : f ≢ g) (one : isIf2 g ≡ false → f ≡ if2) where
     planned : (b : Bool) → isIf2 g ≡ b → Planned b f g
@@ -232,7 +210,7 @@ module _ (t k n : ℕ) (h : t ≤ 9) (ek : k ≡ coreBits t) (en : n ≡ octets 
         go false = some-octet .1
 
     pub moves : (i a c j : ℕ) (l : Bool) → i ≡ cond (isIf2 g) (coreAt f) 0 → a ≡ cond (isIf2 g) 3 5 → c ≡ cond (isIf2 g) ((k + 7) / 8) n
-        → l ≡ cond (isIf2 g) (ltb ((k + 7) / 8) n) (leb n ((k + 7) / 8)) → j ≡ coreAt g → Moves f g t i a (c - 1) l j
+        → l ≡ cond (isIf2 g) (not (eqb t 1)) (eqb t 1) → j ≡ coreAt g → Moves f g t i a (c - 1) l j
     moves i a c j l ei ea ec el ej = rw (ei, ea, ec, el, ej) (planned (isIf2 g) refl)
 
   module _ (f g : Format) (i j : ℕ) (src out : List ℕ) (x : Frame) (nf : f ≢ if2) (ng : g ≢ if2) (ei : i ≡ coreAt f) (ej : j ≡ coreAt g) (ex : x .type ≡ t)

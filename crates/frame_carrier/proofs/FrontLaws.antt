@@ -171,7 +171,7 @@ carry-if2 f r src out x o i y d os c h lo e ei ey ed =
     ∙ num-append 3 (x .core) _ (omega (arith, v .core-length, z .three)) in
     first-set if2 (withoutModes x) out (o + y / 2 ^ 5) (v .type-known) (v .core-length)
     (sym (first-filled t (x .quality) o lo (x .core) (y / 2 ^ 5) e top)) d
-    (octets if2 t - 1) (omega (arith, z .some, z .in-if2)) (some-room f if2 r src out x c) ed
+    (octets if2 t - 1) (omega (arith, z .some, z .in-if2, z .one)) (some-room f if2 r src out x c) ed
 
 -- the three octets of IF1
 core-crc : (f : Format) (src out : List ℕ) (x : Frame) (d : List ℕ) → Valid f x → x .type ≤ 9 → 3 ≤ length out

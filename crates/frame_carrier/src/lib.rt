@@ -12,7 +12,7 @@ ghost use mathlib.Core.Bool.{Bool, false, not, _&&_, cond};
 ghost use mathlib.Core.Logic.{_≢_};
 ghost use mathlib.Core.List.{List, _∷_, _++_};
 ghost use Prim.Native.Nat.{ℕ, _+_, _*_, _<_, _≤_};
-ghost use lib.Dec.{leb, ltb};
+ghost use lib.Dec.{eqb, leb};
 ghost use lib.ListN.{length, take, drop};
 ghost use Rattle.bits.specs.Bits.{num, bits, packs, one-if};
 ghost use Rattle.parity.specs.Crc.{crc};
@@ -81,11 +81,11 @@ fn source_octets(g: Format, m: usize, n: usize) -> usize
     if is_if2(g) { m } else { n }
 }
 
-// Whether the last octet comes from what is left of the source's last.
-fn last_left(g: Format, m: usize, n: usize) -> bool
-    ensures { λ r. ⌜ r ≡ cond (isIf2 (formatOf g)) (ltb m n) (leb n m) ⌝ }
+// Whether the last octet comes from what is left of the source's last: of type 1 alone a core takes as many octets as its IF2 frame.
+fn last_left(g: Format, t: usize) -> bool
+    ensures { λ r. ⌜ r ≡ cond (isIf2 (formatOf g)) (not (eqb t 1)) (eqb t 1) ⌝ }
 {
-    if is_if2(g) { m < n } else { n <= m }
+    if is_if2(g) { t != 1 } else { t == 1 }
 }
 
 // How a core is moved to IF2 or from it: from which octet and bit, how many octets, whether one more is what is left of the source's last,
@@ -108,7 +108,7 @@ fn plan(f: Format, g: Format, t: usize) -> Move
     let from = from_at(f, g);
     let shift = shift_to(g);
     let to = core_at(g);
-    let last = last_left(g, m, n);
+    let last = last_left(g, t);
     Move {
         from,
         shift,

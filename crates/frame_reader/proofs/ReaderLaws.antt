@@ -107,9 +107,6 @@ module _ (s : List ℕ) (o : getD s 0 0 < 256) (h : 0 < length s) where
   field : (a k b : ℕ) → a + (k + b) ≡ 8 → num k (drop a (bits s)) ≡ getD s 0 0 / 2 ^ b % 2 ^ k
   field a k b e = ap (λ i. num k (drop i (bits s))) (let z : a ≡ 8 * 0 + a = omega arith in z) ∙ octet-field 0 a k b s h e
 
-  pub type-if : getD s 0 0 / 2 ^ 4 ≡ num 4 (drop 0 (bits s))
-  type-if = sym (field 0 4 4 refl ∙ (let z : getD s 0 0 / 2 ^ 4 % 2 ^ 4 ≡ getD s 0 0 / 2 ^ 4 = omega arith in z))
-
   pub masked-field : (a k b : ℕ) → a + (k + b) ≡ 8 → bitAnd (getD s 0 0 / 2 ^ b) (2 ^ k - 1) ≡ num k (drop a (bits s))
   masked-field a k b e = and-mask (getD s 0 0 / 2 ^ b) k ∙ sym (field a k b e)
 

@@ -13,6 +13,7 @@ use frame::table::core_bits;
 use frame::table::fill_bits;
 use frame::table::header_bits;
 use frame::table::octets_of;
+use frame::table::spare_before;
 ghost use mathlib.Core.Path.{_≡_};
 ghost use mathlib.Core.Bool.{true, not, _&&_, _||_, cond};
 ghost use Prim.Native.Nat.{_+_, _<_, _≤_};
@@ -46,11 +47,7 @@ pub fn type_in(f: Format, s: &[u8]) -> u8
     requires { ⌜ 0 < length (now s) ⌝ }
     ensures { λ r. ⌜ r ≡ typeIn (formatOf f) (bits (now (s .entry))) ⌝ }
 {
-    match f {
-        Format::If1 => s[0] >> 4,
-        Format::If2 => s[0] >> 4,
-        Format::Storage => (s[0] >> 3) & 15,
-    }
+    (s[0] >> (4 - spare_before(f))) & 15
 }
 
 // The FQI.
@@ -58,11 +55,7 @@ pub fn quality_in(f: Format, s: &[u8]) -> u8
     requires { ⌜ 0 < length (now s) ⌝ }
     ensures { λ r. ⌜ r ≡ qualityIn (formatOf f) (bits (now (s .entry))) ⌝ }
 {
-    match f {
-        Format::If1 => (s[0] >> 3) & 1,
-        Format::If2 => (s[0] >> 3) & 1,
-        Format::Storage => (s[0] >> 2) & 1,
-    }
+    (s[0] >> (3 - spare_before(f))) & 1
 }
 
 // The mode that stands at bit `from`, 0 where the frame carries none.

@@ -1,12 +1,13 @@
 -- `converter::write_frames` meets its contract: what is written and what is still to come make the conversion. Assumes nothing.
 use borrow.Author.Needs.{needs}
 use mathlib.Core.Path.{_≡_, ap, _∙_}
-use Prim.Native.Nat.{ℕ, _+_, _-_, _<_, _≤_}
+use mathlib.Core.Bool.{true}
+use Prim.Native.Nat.{ℕ, _+_, _-_, _≤_}
 use native.Mathlib.Omega.{arith}
 use lib.ListN.{length, drop, length-drop}
 use lib.Seq.{length-take-le}
-use Rattle.definitions.specs.Frames.{octets}
-use Rattle.definitions.proofs.Tables.{known-below, sized}
+use Rattle.definitions.specs.Frames.{known, octets}
+use Rattle.definitions.proofs.Tables.{sized}
 use Rattle.frame.specs.Answers.{formatOf}
 use Rattle.recordings.specs.Recordings.{limit}
 use Rattle.converter.proofs.WriteLaws.{header-room, header-long, Written, written-start, written-end, at-front, front-octets, front-room, part-type, part-carriable, part-written}
@@ -23,8 +24,8 @@ abbrev μ-loop : tie.MeasureT-loop
 type-is : (c : tie.After-type-in Inv-loop μ-loop) → c .type-in .result ≡ at-front (c .before .before .before .loop .inv) (c .before .before .loop-test .taken) .x .type
 type-is c = c .type-in .ensures ∙ part-type (c .before .before .before .loop .inv) (c .before .before .loop-test .taken)
 
-type-there : (c : tie.After-type-in Inv-loop μ-loop) → c .type-in .result < 16
-type-there c = omega (arith, type-is c, known-below _ (at-front (c .before .before .before .loop .inv) (c .before .before .loop-test .taken) .valid .type-known))
+type-there : (c : tie.After-type-in Inv-loop μ-loop) → known (c .type-in .result) ≡ true
+type-there c = ap known (type-is c) ∙ at-front (c .before .before .before .loop .inv) (c .before .before .loop-test .taken) .valid .type-known
 
 room-there : (c : tie.After-type-in Inv-loop μ-loop) → c .before .before .before .loop .to ≤ length (c .before .before .before .loop .out)
 room-there c = omega (arith, front-room (c .before .before .before .loop .inv) (c .before .before .loop-test .taken) .0)
@@ -95,32 +96,32 @@ carry-frame-requires c κs =
     let w = c .before .before .before .before .loop .inv in
     (c .before .before .before .before .before .before .before .before .before .before .before .before .pre .1, (at-front w (c .before .before .before .loop-test .taken) .x, part-carriable w (c .before .before .before .loop-test .taken) (c .before .before .before .before .before .before .before .before .before .before .before .before .pre .0)))
 
-octets-of-requires : tie.Need-octets-of-requires Inv-loop μ-loop
-octets-of-requires c κs =
+octets-by-bits-requires : tie.Need-octets-by-bits-requires Inv-loop μ-loop
+octets-by-bits-requires c κs =
     type-there (c .before .before .before .before)
 
 add-at : tie.Need-add-at Inv-loop μ-loop
 add-at c =
-    omega (arith, at-there (c .before .before .before .before .before) _ (c .octets-of .ensures .0))
+    omega (arith, at-there (c .before .before .before .before .before) _ (c .octets-by-bits .ensures))
 
-octets-of-requires-2 : tie.Need-octets-of-requires-2 Inv-loop μ-loop
-octets-of-requires-2 c κs =
+octets-by-bits-requires-2 : tie.Need-octets-by-bits-requires-2 Inv-loop μ-loop
+octets-by-bits-requires-2 c κs =
     type-there (c .before .before .before .before .before)
 
 add-to : tie.Need-add-to Inv-loop μ-loop
 add-to c =
-    omega (arith, to-there (c .before .before .before .before .before .before) _ (c .octets-of2 .ensures .0))
+    omega (arith, to-there (c .before .before .before .before .before .before) _ (c .octets-by-bits2 .ensures))
 
 loop-less : tie.Need-loop-less Inv-loop μ-loop
 loop-less c =
-    omega (arith, at-there (c .before .before .before .before .before .before) _ (c .before .octets-of .ensures .0))
+    omega (arith, at-there (c .before .before .before .before .before .before) _ (c .before .octets-by-bits .ensures))
 
 loop-again : tie.Need-loop-again Inv-loop μ-loop
 loop-again c =
     let w = c .before .before .before .before .before .before .before .before .before .loop .inv in
     let l = c .before .before .before .before .before .before .before .before .loop-test .taken in
-    part-written w l (c .before .before .before .before .carry-frame .last .1 .1 .1 .1 .0) (c .before .before .before .before .before .before .type-in .result) (c .before .octets-of .result) (c .octets-of2 .result)
-    (c .before .before .before .before .before .before .type-in .ensures ∙ part-type w l) (c .before .octets-of .ensures .0) (c .octets-of2 .ensures .0)
+    part-written w l (c .before .before .before .before .carry-frame .last .1 .1 .1 .1 .0) (c .before .before .before .before .before .before .type-in .result) (c .before .octets-by-bits .result) (c .octets-by-bits2 .result)
+    (c .before .before .before .before .before .before .type-in .ensures ∙ part-type w l) (c .before .octets-by-bits .ensures) (c .octets-by-bits2 .ensures)
     (c .before .before .before .before .carry-frame .ensures (at-front w l .x) (part-carriable w l (c .before .before .before .before .before .before .before .before .before .before .before .before .before .before .before .before .before .pre .0)))
 
 same-length : tie.Need-same-length Inv-loop μ-loop
@@ -154,9 +155,9 @@ write-frames-spec =
     part-carry-frame-start
     part-carry-frame-end
     carry-frame-requires
-    octets-of-requires
+    octets-by-bits-requires
     add-at
-    octets-of-requires-2
+    octets-by-bits-requires-2
     add-to
     loop-less
     loop-again

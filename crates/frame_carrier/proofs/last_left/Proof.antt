@@ -1,8 +1,8 @@
 -- `frame_carrier::last_left` meets its contract. Assumes nothing.
 use borrow.Author.Needs.{needs}
 use mathlib.Core.Path.{sym, ap, _∙_}
-use mathlib.Core.Bool.{cond}
-use lib.Dec.{leb, ltb}
+use mathlib.Core.Bool.{not, cond}
+use lib.Dec.{eqb}
 use Rattle.frame_carrier.proofs.last_left.Statement.{statement}
 use Rattle.frame_carrier.proofs.last_left.Tie as tie
 
@@ -11,13 +11,13 @@ is-if2-requires c κs = search needs
 
 returns : tie.Need-returns
 returns c =
-    let a = c .before .before .args in
-    sym (ap (λ b. cond b (ltb (a .m) (a .n)) (leb (a .n) (a .m))) (sym (c .before .is-if2 .ensures) ∙ c .if1 .taken))
+    let t = c .before .before .args .t in
+    sym (ap (λ b. cond b (not (eqb t 1)) (eqb t 1)) (sym (c .before .is-if2 .ensures) ∙ c .if1 .taken))
 
 returns-2 : tie.Need-returns-2
 returns-2 c =
-    let a = c .before .before .args in
-    sym (ap (λ b. cond b (ltb (a .m) (a .n)) (leb (a .n) (a .m))) (sym (c .before .is-if2 .ensures) ∙ c .if1 .left))
+    let t = c .before .before .args .t in
+    sym (ap (λ b. cond b (not (eqb t 1)) (eqb t 1)) (sym (c .before .is-if2 .ensures) ∙ c .if1 .left))
 
 pub last-left-spec : {M : Type 1} → statement M
 last-left-spec = tie.close (tie.spec is-if2-requires returns returns-2)
