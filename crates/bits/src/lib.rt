@@ -115,10 +115,11 @@ fn group_shifted(src: &[u8], i: usize, a: usize, dst: &mut [u8], j: usize)
     each_whole(&group, 0, 16, dst, j);
 }
 
-// Copies `m` whole octets from octet `i` of `src` to octet `j` of `dst`, by groups of 16. The second group may begin within the first. For
-// the conversion; `put_run` does not call it, so that the compiler makes it part of its one caller.
+// Copies `m` whole octets from octet `i` of `src` to octet `j` of `dst`, by groups of 16 that may begin within one another. For the
+// conversion: no loop, since a core's length is hard to foresee; `put_run` does not call it, so that the compiler makes it part of its one
+// caller.
 pub fn copy_whole(src: &[u8], i: usize, m: usize, dst: &mut [u8], j: usize)
-    requires { ⌜ (i + m ≤ length (now src)) × (j + m ≤ length (now dst)) ⌝ }
+    requires { ⌜ (m ≤ 64) × (i + m ≤ length (now src)) × (j + m ≤ length (now dst)) ⌝ }
     ensures { λ _. ⌜ bits (now (dst .exit)) ≡ copied (bits (now (dst .entry))) (8 * j) (drop (8 * i) (bits (now (src .entry)))) (8 * m) ⌝ }
 {
     if m < 16 {
@@ -126,16 +127,18 @@ pub fn copy_whole(src: &[u8], i: usize, m: usize, dst: &mut [u8], j: usize)
         return;
     }
     group_whole(src, i, dst, j);
-    let mut t = ((m - 1) & 15) + 1;
-    while t < m {
-        group_whole(src, i + t, dst, j + t);
-        t += 16;
+    if m <= 32 {
+        group_whole(src, i + m - 16, dst, j + m - 16);
+        return;
     }
+    group_whole(src, i + 16, dst, j + 16);
+    group_whole(src, i + m - 32, dst, j + m - 32);
+    group_whole(src, i + m - 16, dst, j + m - 16);
 }
 
 // Copies `m` octets of bits from bit `a` of octet `i` of `src`, where `a` is not 0, to octet `j` of `dst`, by groups as `copy_whole` does.
 pub fn copy_shifted(src: &[u8], i: usize, a: usize, m: usize, dst: &mut [u8], j: usize)
-    requires { ⌜ (0 < a) × (a < 8) × (i + m < length (now src)) × (j + m ≤ length (now dst)) ⌝ }
+    requires { ⌜ (0 < a) × (a < 8) × (m ≤ 64) × (i + m < length (now src)) × (j + m ≤ length (now dst)) ⌝ }
     ensures { λ _. ⌜ bits (now (dst .exit)) ≡ copied (bits (now (dst .entry))) (8 * j) (drop (8 * i + a) (bits (now (src .entry)))) (8 * m) ⌝ }
 {
     if m < 16 {
@@ -143,11 +146,13 @@ pub fn copy_shifted(src: &[u8], i: usize, a: usize, m: usize, dst: &mut [u8], j:
         return;
     }
     group_shifted(src, i, a, dst, j);
-    let mut t = ((m - 1) & 15) + 1;
-    while t < m {
-        group_shifted(src, i + t, a, dst, j + t);
-        t += 16;
+    if m <= 32 {
+        group_shifted(src, i + m - 16, a, dst, j + m - 16);
+        return;
     }
+    group_shifted(src, i + 16, a, dst, j + 16);
+    group_shifted(src, i + m - 32, a, dst, j + m - 32);
+    group_shifted(src, i + m - 16, a, dst, j + m - 16);
 }
 
 // Copies `m` octets of bits from bit `from` of `src` to octet `j` of `dst`.

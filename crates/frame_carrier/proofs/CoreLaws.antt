@@ -164,7 +164,7 @@ module _ (t k n : ℕ) (h : t ≤ 9) (ek : k ≡ coreBits t) (en : n ≡ octets 
         start = refl;
         count = omega (arith, core-octets, s .some, s .in-if2, s .one);
         inside = omega (arith, core-octets, a .1, s .some);
-        near = (omega (arith, core-octets, s .few, b), omega (arith, core-octets, s .few));
+        near = (b, omega arith, omega (arith, core-octets, s .few));
         ends = λ src out x ex c. (
           fillBits f t,
           after f if2 t src out x h ex c,
@@ -183,7 +183,7 @@ module _ (t k n : ℕ) (h : t ≤ 9) (ek : k ≡ coreBits t) (en : n ≡ octets 
         start = refl;
         count = omega (arith, a .1, s .some, s .in-if2, s .one, en);
         inside = omega (arith, some-octet .1, en);
-        near = (omega (arith, s .in-if2, s .few, en), omega (arith, s .in-if2, s .few, b, en));
+        near = (omega arith, b, omega (arith, s .in-if2, s .few, en));
         ends = λ src out x ex c. (
           fillBits if2 t,
           after if2 g t src out x h ex c,
@@ -215,8 +215,9 @@ module _ (t k n : ℕ) (h : t ≤ 9) (ek : k ≡ coreBits t) (en : n ≡ octets 
 
   module _ (f g : Format) (i j : ℕ) (src out : List ℕ) (x : Frame) (nf : f ≢ if2) (ng : g ≢ if2) (ei : i ≡ coreAt f) (ej : j ≡ coreAt g) (ex : x .type ≡ t)
       (c : Carriable f g src x out) where
-    pub over-asks : (i + (k + 7) / 8 ≤ length src) × (j + (k + 7) / 8 ≤ length out)
+    pub over-asks : ((k + 7) / 8 ≤ 64) × (i + (k + 7) / 8 ≤ length src) × (j + (k + 7) / 8 ≤ length out)
     over-asks = (
+      omega (arith, core-octets, sizes t h .few),
       omega (arith, core-octets, aligned-header f t nf h .1, source-long f g t src out x h ex c),
       omega (arith, core-octets, aligned-header g t ng h .1, room-there f g t src out x h ex c),
     )
@@ -231,7 +232,7 @@ module _ (t k n : ℕ) (h : t ≤ 9) (ek : k ≡ coreBits t) (en : n ≡ octets 
         let s : drop (8 * i) (bits src) ≡ w ++ (replicate (fillBits f t) false ++ after f g t src out x h ex c) =
         ap (λ q. drop (8 * q) (bits src)) ei ∙ whole-stream f g t src out x h ex c nf in
         let l : 8 * coreOctets t ≤ length (drop (8 * i) (bits src)) =
-        omega (arith, length-drop (8 * i) (bits src), length-bits src, over-asks .0, core-octets) in
+        omega (arith, length-drop (8 * i) (bits src), length-bits src, over-asks .1, core-octets) in
         copied-octets d out j (coreOctets t) (drop (8 * i) (bits src)) o o₀ l
         (e ∙ ap (λ q. copied (bits out) (8 * j) (drop (8 * i) (bits src)) (8 * q)) core-octets)
         ∙ ap (λ v. take j out ++ (v ++ drop (j + coreOctets t) out))
@@ -243,12 +244,11 @@ module _ (t k n : ℕ) (h : t ≤ 9) (ek : k ≡ coreBits t) (en : n ≡ octets 
 -- ---- what a move asks and gives
 
 module _ (f g : Format) (t i a c : ℕ) (last : Bool) (j : ℕ) (h : t ≤ 9) (m : Moves f g t i a c last j) (src out : List ℕ) (x : Frame) (ex : x .type ≡ t) (v : Carriable f g src x out) where
-  pub shifted-asks : (i + c < length src) × (j + c + one-if last ≤ length out) × (j + c < 65536) × (i + c < 65536)
+  pub shifted-asks : (i + c < length src) × (j + c + one-if last ≤ length out) × ((i ≤ 3) × (j ≤ 3) × (c ≤ 64))
   shifted-asks = (
     omega (arith, m .inside, source-long f g t src out x h ex v),
     omega (arith, m .count, room-there f g t src out x h ex v),
-    m .near .1,
-    m .near .0,
+    m .near,
   )
 
   pub shifted-gives : (d : List ℕ)

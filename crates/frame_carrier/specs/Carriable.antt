@@ -53,5 +53,5 @@ pub record Moves (f g : Format) (t i a c : ℕ) (last : Bool) (j : ℕ) : Type 0
   pub start : j ≡ coreAt g
   pub count : j + (c + one-if last) ≡ octets g t
   pub inside : i + c < octets f t
-  pub near : (i + c < 65536) × (j + c < 65536)
+  pub near : (i ≤ 3) × (j ≤ 3) × (c ≤ 64)
   pub ends : (src out : List ℕ) (x : Frame) → x .type ≡ t → Carriable f g src x out → (z : ℕ) × (r : List Bool) × Ends src i a c (behind g (x .core)) z r

@@ -40,7 +40,7 @@ fn core_at(f: Format) -> usize
 
 // Moves `c` octets of bits from bit `a` of octet `i` of `src`, and then, where it is asked, what is left of the source frame's last octet.
 fn move_shifted(src: &[u8], i: usize, a: usize, c: usize, last: bool, out: &mut [u8], j: usize)
-    requires { ⌜ Shift a × (i + c < length (now src)) × (j + c + one-if last ≤ length (now out)) × (j + c < 65536) × (i + c < 65536) ⌝ }
+    requires { ⌜ Shift a × (i + c < length (now src)) × (j + c + one-if last ≤ length (now out)) × (i ≤ 3) × (j ≤ 3) × (c ≤ 64) ⌝ }
     ensures { λ _. ⌜ ((w : List Bool) (z : ℕ) (r : List Bool) → Ends (now (src .entry)) i a c w z r → now (out .exit) ≡ take j (now (out .entry)) ++ (packs (c + one-if last) w ++ drop (j + (c + one-if last)) (now (out .entry)))) ⌝ }
 {
     bits::copy_shifted(src, i, a, c, out, j);

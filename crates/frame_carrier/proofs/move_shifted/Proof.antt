@@ -12,7 +12,7 @@ use Rattle.frame_carrier.proofs.move_shifted.Tie as tie
 
 copy-shifted-requires : tie.Need-copy-shifted-requires
 copy-shifted-requires c κs =
-    let p = c .before .before .before .pre in let s = shift-below (c .before .before .before .args .a) (p .0) in (s .0, s .1, p .1, omega (arith, p .2))
+    let p = c .before .before .before .pre in let s = shift-below (c .before .before .before .args .a) (p .0) in (s .0, s .1, p .5, p .1, omega (arith, p .2))
 
 add-out : tie.Need-add-out
 add-out c = search needs

@@ -15,7 +15,7 @@ move-shifted-requires c κs =
     let p = c .before .plan in
     let s = c .before .before .before .before .pre .2 in
     let q = shifted-asks (formatOf (a .f)) (formatOf (a .g)) (a .t) (p .result .from) (p .result .shift) (p .result .count) (p .result .last) (p .result .to) (c .before .before .before .before .pre .0) (p .ensures) (a .src .now) (a .out .now) (s .0) (s .1) (s .2) in
-    (p .ensures .shift, q .0, q .1, q .2, q .3)
+    (p .ensures .shift, q .0, q .1, q .2 .0, q .2 .1, q .2 .2)
 
 same-length : tie.Need-same-length
 same-length c = search needs
