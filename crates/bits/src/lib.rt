@@ -136,23 +136,43 @@ pub fn copy_whole(src: &[u8], i: usize, m: usize, dst: &mut [u8], j: usize)
     group_whole(src, i + m - 16, dst, j + m - 16);
 }
 
-// Copies `m` octets of bits from bit `a` of octet `i` of `src`, where `a` is not 0, to octet `j` of `dst`, by groups as `copy_whole` does.
-pub fn copy_shifted(src: &[u8], i: usize, a: usize, m: usize, dst: &mut [u8], j: usize)
-    requires { ⌜ (0 < a) × (a < 8) × (m ≤ 64) × (i + m < length (now src)) × (j + m ≤ length (now dst)) ⌝ }
-    ensures { λ _. ⌜ bits (now (dst .exit)) ≡ copied (bits (now (dst .entry))) (8 * j) (drop (8 * i + a) (bits (now (src .entry)))) (8 * m) ⌝ }
+// Copies `m` octets of bits from bit 3 of octet `i` of `src` to octet `j` of `dst`, by groups as `copy_whole` does. The shift is a constant:
+// that is half the work.
+pub fn copy_by_three(src: &[u8], i: usize, m: usize, dst: &mut [u8], j: usize)
+    requires { ⌜ (m ≤ 64) × (i + m < length (now src)) × (j + m ≤ length (now dst)) ⌝ }
+    ensures { λ _. ⌜ bits (now (dst .exit)) ≡ copied (bits (now (dst .entry))) (8 * j) (drop (8 * i + 3) (bits (now (src .entry)))) (8 * m) ⌝ }
 {
     if m < 16 {
-        each_shifted(src, i, a, m, dst, j);
+        each_shifted(src, i, 3, m, dst, j);
         return;
     }
-    group_shifted(src, i, a, dst, j);
+    group_shifted(src, i, 3, dst, j);
     if m <= 32 {
-        group_shifted(src, i + m - 16, a, dst, j + m - 16);
+        group_shifted(src, i + m - 16, 3, dst, j + m - 16);
         return;
     }
-    group_shifted(src, i + 16, a, dst, j + 16);
-    group_shifted(src, i + m - 32, a, dst, j + m - 32);
-    group_shifted(src, i + m - 16, a, dst, j + m - 16);
+    group_shifted(src, i + 16, 3, dst, j + 16);
+    group_shifted(src, i + m - 32, 3, dst, j + m - 32);
+    group_shifted(src, i + m - 16, 3, dst, j + m - 16);
+}
+
+// The same from bit 5 on.
+pub fn copy_by_five(src: &[u8], i: usize, m: usize, dst: &mut [u8], j: usize)
+    requires { ⌜ (m ≤ 64) × (i + m < length (now src)) × (j + m ≤ length (now dst)) ⌝ }
+    ensures { λ _. ⌜ bits (now (dst .exit)) ≡ copied (bits (now (dst .entry))) (8 * j) (drop (8 * i + 5) (bits (now (src .entry)))) (8 * m) ⌝ }
+{
+    if m < 16 {
+        each_shifted(src, i, 5, m, dst, j);
+        return;
+    }
+    group_shifted(src, i, 5, dst, j);
+    if m <= 32 {
+        group_shifted(src, i + m - 16, 5, dst, j + m - 16);
+        return;
+    }
+    group_shifted(src, i + 16, 5, dst, j + 16);
+    group_shifted(src, i + m - 32, 5, dst, j + m - 32);
+    group_shifted(src, i + m - 16, 5, dst, j + m - 16);
 }
 
 // Copies `m` octets of bits from bit `from` of `src` to octet `j` of `dst`.

@@ -14,7 +14,7 @@ use Rattle.bits.proofs.BitLaws.{length-bits}
 use Rattle.bits.proofs.Tests.{and-left, and-right, every-below}
 use Rattle.definitions.specs.Frames.{Format, if1, if2, storage, Frame, known, coreBits, octets, coreOctets, headerBits, fillBits}
 use Rattle.frame.proofs.TableLaws.{room}
-use Rattle.frame_carrier.specs.Carriable.{isIf2, coreAt, behind, Ends, Moves, Carriable}
+use Rattle.frame_carrier.specs.Carriable.{isIf2, coreAt, behind, Ends, Carriable}
 use Rattle.frame_carrier.proofs.PackLaws.{packs-padded, copied-octets}
 use Rattle.frame_carrier.proofs.CarryLaws.{source-core}
 
@@ -144,6 +144,16 @@ if2-ends g t src out x h ex c = record {
   border = omega (arith, filled if2 g t src out x h ex c, core-long if2 g t src out x h ex c, sizes t h .some, sizes t h .in-if2, sizes t h .one);
 }
 
+-- ---- moves to IF2 and from it
+
+-- how a core of type t is moved to IF2 or from it: c octets from bit a of the source's octet i on, and one more where last is so, to octet j
+pub record Moves (f g : Format) (t i a c : ℕ) (last : Bool) (j : ℕ) : Type 0 where
+  pub start : j ≡ coreAt g
+  pub count : j + (c + one-if last) ≡ octets g t
+  pub inside : i + c < octets f t
+  pub near : (i ≤ 3) × (j ≤ 3) × (c ≤ 64)
+  pub ends : (src out : List ℕ) (x : Frame) → x .type ≡ t → Carriable f g src x out → (z : ℕ) × (r : List Bool) × Ends src i a c (behind g (x .core)) z r
+
 -- ---- what the movers ask and give, by the code's numbers: k bits of core, n octets in IF2, the core from octet i or j on
 
 module _ (t k n : ℕ) (h : t ≤ 9) (ek : k ≡ coreBits t) (en : n ≡ octets if2 t) where
@@ -160,7 +170,6 @@ module _ (t k n : ℕ) (h : t ≤ 9) (ek : k ≡ coreBits t) (en : n ≡ octets 
       let b = core-at-most f in
       let a = aligned-header f t nf h in
       record {
-        shift = inl refl;
         start = refl;
         count = omega (arith, core-octets, s .some, s .in-if2, s .one);
         inside = omega (arith, core-octets, a .1, s .some);
@@ -172,6 +181,9 @@ module _ (t k n : ℕ) (h : t ≤ 9) (ek : k ≡ coreBits t) (en : n ≡ octets 
         );
       }
 
+  pub moves-up : (f : Format) (i : ℕ) → f ≢ if2 → i ≡ coreAt f → Moves f if2 t i 3 ((k + 7) / 8 - 1) (not (eqb t 1)) 1
+  moves-up f i nf e = subst (λ i. Moves f if2 t i 3 ((k + 7) / 8 - 1) (not (eqb t 1)) 1) (sym e) (up-move f nf)
+
   -- from IF2
   down-move : (g : Format) → g ≢ if2 → Moves if2 g t 0 5 (n - 1) (eqb t 1) (coreAt g)
   down-move g ng =
@@ -179,7 +191,6 @@ module _ (t k n : ℕ) (h : t ≤ 9) (ek : k ≡ coreBits t) (en : n ≡ octets 
       let b = core-at-most g in
       let a = aligned-header g t ng h in
       record {
-        shift = inr refl;
         start = refl;
         count = omega (arith, a .1, s .some, s .in-if2, s .one, en);
         inside = omega (arith, some-octet .1, en);
@@ -192,26 +203,8 @@ module _ (t k n : ℕ) (h : t ≤ 9) (ek : k ≡ coreBits t) (en : n ≡ octets 
         );
       }
 
-  -- what `plan` answers, where b says whether g is IF2
-  abbrev Planned : Bool → (f g : Format) → Type 0
-  Planned b f g =
-      Moves f g t (cond b (coreAt f) 0) (cond b 3 5) (cond b ((k + 7) / 8) n - 1) (cond b (not (eqb t 1)) (eqb t 1)) (coreAt g)
-
-  module _ (f g : Format) (o : f ≢ g) (one : isIf2 g ≡ false → f ≡ if2) where
-    planned : (b : Bool) → isIf2 g ≡ b → Planned b f g
-    planned true e = subst (Planned true f) (sym (if2-is g e)) (up-move f (λ z. o (z ∙ sym (if2-is g e))))
-    planned false e = subst (λ f. Planned false f g) (sym (one e)) (down-move g (λ z. o (one e ∙ sym z)))
-
-    pub some-source : 1 ≤ cond (isIf2 g) ((k + 7) / 8) n
-    some-source = go (isIf2 g)
-      where
-        go : (b : Bool) → 1 ≤ cond b ((k + 7) / 8) n
-        go true = some-octet .0
-        go false = some-octet .1
-
-    pub moves : (i a c j : ℕ) (l : Bool) → i ≡ cond (isIf2 g) (coreAt f) 0 → a ≡ cond (isIf2 g) 3 5 → c ≡ cond (isIf2 g) ((k + 7) / 8) n
-        → l ≡ cond (isIf2 g) (not (eqb t 1)) (eqb t 1) → j ≡ coreAt g → Moves f g t i a (c - 1) l j
-    moves i a c j l ei ea ec el ej = rw (ei, ea, ec, el, ej) (planned (isIf2 g) refl)
+  pub moves-down : (g : Format) (j : ℕ) → g ≢ if2 → j ≡ coreAt g → Moves if2 g t 0 5 (n - 1) (eqb t 1) j
+  moves-down g j ng e = subst (Moves if2 g t 0 5 (n - 1) (eqb t 1)) (sym e) (down-move g ng)
 
   module _ (f g : Format) (i j : ℕ) (src out : List ℕ) (x : Frame) (nf : f ≢ if2) (ng : g ≢ if2) (ei : i ≡ coreAt f) (ej : j ≡ coreAt g) (ex : x .type ≡ t)
       (c : Carriable f g src x out) where

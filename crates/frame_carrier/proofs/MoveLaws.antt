@@ -9,8 +9,8 @@ use lib.ListN.{length, take, drop, getD, set, replicate, length-append, length-t
 use lib.Seq.{take-at, drop-drop, drop-append-le, drop-cons, set-at}
 use Rattle.bits.specs.Bits.{digits, num, bits, packs, Octets, copied}
 use Rattle.bits.proofs.BitLaws.{length-digits, length-packs, num-pad, bits-from, length-bits}
-use Rattle.frame_carrier.proofs.PackLaws.{drop-padded, packs-padded, packs-more, copied-octets, shift-three, shift-five}
-use Rattle.frame_carrier.specs.Carriable.{Shift, Ends}
+use Rattle.frame_carrier.proofs.PackLaws.{drop-padded, packs-padded, packs-more, copied-octets}
+use Rattle.frame_carrier.specs.Carriable.{Ends}
 
 module _ (src d₀ d₁ : List ℕ) (i a c j : ℕ) (w : List Bool) (z : ℕ) (r : List Bool) (o₀ : Octets d₀) (o₁ : Octets d₁)
     (ends : Ends src i a c w z r) (la : a < 8)
@@ -61,12 +61,3 @@ module _ (src d₀ d₁ : List ℕ) (i a c j : ℕ) (w : List Bool) (z : ℕ) (r
       (sym (append-assoc (packs c w) (v ∷ []) q)
       ∙ ap₂ (λ u n. u ++ drop n d₀) (ap (λ u. packs c w ++ (u ∷ [])) ev ∙ sym (packs-more c w)) k)
 
--- ---- the shifts that occur
-
-pub shift-below : (a : ℕ) → Shift a → (0 < a) × (a < 8)
-shift-below a h = ⊎-elim (λ e. (omega (arith, e), omega (arith, e))) (λ e. (omega (arith, e), omega (arith, e))) h
-
-pub shift-octet : (a x : ℕ) → Shift a → x < 256 → x * 2 ^ a % 256 ≡ num 8 (drop a (digits 8 x))
-shift-octet a x h l =
-    ⊎-elim (λ e. subst (λ k. x * 2 ^ k % 256 ≡ num 8 (drop k (digits 8 x))) (sym e) (shift-three x l))
-    (λ e. subst (λ k. x * 2 ^ k % 256 ≡ num 8 (drop k (digits 8 x))) (sym e) (shift-five x l)) h

@@ -31,10 +31,6 @@ pub record Ends (src : List ℕ) (i a c : ℕ) (w : List Bool) (z : ℕ) (r : Li
   pub stream : drop (8 * i + a) (bits src) ≡ w ++ (replicate z false ++ r)
   pub border : 8 * c + 8 ≡ length w + z + a
 
--- the shifts that occur: towards IF2, and from it
-abbrev pub Shift : ℕ → Type 0
-Shift a = (a ≡ 3) ⊎ (a ≡ 5)
-
 -- the source begins with the valid frame x, and the output has room for it in the format g
 pub record Carriable (f g : Format) (src : List ℕ) (x : Frame) (out : List ℕ) : Type 0 where
   pub others : f ≢ g
@@ -46,12 +42,3 @@ abbrev pub CoreMoved : (f g : Format) → ℕ → (src out₀ out : List ℕ) �
 CoreMoved f g t src out₀ out =
     (x : Frame) → x .type ≡ t → Carriable f g src x out₀
     → out ≡ take (coreAt g) out₀ ++ (packs (octets g t - coreAt g) (behind g (x .core)) ++ drop (octets g t) out₀)
-
--- how a core of type t is moved to IF2 or from it: c octets from bit a of the source's octet i on, and one more where last is so, to octet j
-pub record Moves (f g : Format) (t i a c : ℕ) (last : Bool) (j : ℕ) : Type 0 where
-  pub shift : Shift a
-  pub start : j ≡ coreAt g
-  pub count : j + (c + one-if last) ≡ octets g t
-  pub inside : i + c < octets f t
-  pub near : (i ≤ 3) × (j ≤ 3) × (c ≤ 64)
-  pub ends : (src out : List ℕ) (x : Frame) → x .type ≡ t → Carriable f g src x out → (z : ℕ) × (r : List Bool) × Ends src i a c (behind g (x .core)) z r
