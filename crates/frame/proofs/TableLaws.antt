@@ -9,9 +9,9 @@ use lib.Dec.{eqb, leb}
 use borrow.Author.Tests.{leb-true, eqb-true}
 use Rattle.bits.proofs.BitLaws.{num-lt}
 use Rattle.bits.proofs.Tests.{and-left, and-right, given, every-below}
-use Rattle.definitions.specs.Frames.{Format, if1, if2, storage, known, coreBits, octets, carriesModes, headerBits, fillBits, typeIn}
+use Rattle.definitions.specs.Frames.{Format, if1, if2, storage, known, coreBits, octets, coreOctets, carriesModes, headerBits, fillBits, typeIn}
 use Rattle.definitions.proofs.Tables.{known-below, sized}
-use Rattle.frame.specs.Rows.{fillWord}
+use Rattle.frame.specs.Rows.{fillWord, coreWord, if2Word}
 
 -- a type without octets is reserved
 reserved-test : Format → ℕ → Bool
@@ -75,3 +75,15 @@ fill-digit f t k = (eqb-true _ _ (and-left _ _ (tested f)), leb-true _ _ (and-ri
     tested if1 = every-below 16 (fill-test if1) refl t (known-below t k)
     tested if2 = every-below 16 (fill-test if2) refl t (known-below t k)
     tested storage = every-below 16 (fill-test storage) refl t (known-below t k)
+
+-- a digit of `coreWord`, and one of `if2Word`
+size-test : (ℕ → ℕ) → ℕ → ℕ → Bool
+size-test of w t = eqb (bitAnd (w / 2 ^ (6 * t)) 63) (of t)
+
+pub core-digit : (t : ℕ) → t ≤ 9 → bitAnd (coreWord / 2 ^ (6 * t)) 63 ≡ coreOctets t
+unfolding size-test coreWord coreBits
+core-digit t h = eqb-true _ _ (every-below 10 (size-test coreOctets coreWord) refl t (omega arith))
+
+pub if2-digit : (t : ℕ) → t ≤ 9 → bitAnd (if2Word / 2 ^ (6 * t)) 63 ≡ octets if2 t
+unfolding size-test if2Word octets
+if2-digit t h = eqb-true _ _ (every-below 10 (size-test (octets if2) if2Word) refl t (omega arith))

@@ -4,9 +4,9 @@ use crate::Format;
 ghost use mathlib.Core.Path.{_≡_};
 ghost use Prim.Native.Nat.{_<_, _≤_};
 ghost use mathlib.Core.Bool.{true};
-ghost use Rattle.definitions.specs.Frames.{known, coreBits, classA, octets, carriesModes, headerBits, fillBits, spareBefore, spareAfter};
+ghost use Rattle.definitions.specs.Frames.{if2, known, coreBits, classA, octets, coreOctets, carriesModes, headerBits, fillBits, spareBefore, spareAfter};
 ghost use Rattle.frame.specs.Answers.{formatOf};
-ghost use Rattle.frame.specs.Rows.{rowWith, rowFor, fillWord};
+ghost use Rattle.frame.specs.Rows.{rowWith, rowFor, fillWord, coreWord, if2Word};
 
 // A row of the table: K, Class A, and the octets in IF1, IF2 and storage format.
 struct TypeRow {
@@ -118,6 +118,35 @@ pub fn fill_bits(f: Format, t: usize) -> usize
     ensures { λ r. ⌜ (r ≡ fillBits (formatOf f) t) × (r ≤ 7) ⌝ }
 {
     ((fill_word(f) >> (4 * t)) & 7) as usize
+}
+
+// The octets of the packed core of each type that has one, six bits for each, type 0 in the lowest.
+fn core_word() -> u64
+    ensures { λ r. ⌜ r ≡ coreWord ⌝ }
+{
+    0x017c_eb2b_a892_05d1
+}
+
+// The octets of the packed core, of a type that has one. By shifts, since what comes of a `match` would become a jump for each type.
+pub fn core_octets(t: usize) -> usize
+    requires { ⌜ t ≤ 9 ⌝ }
+    ensures { λ r. ⌜ r ≡ coreOctets t ⌝ }
+{
+    ((core_word() >> (6 * t)) & 63) as usize
+}
+
+// The same of the octets in IF2.
+fn if2_word() -> u64
+    ensures { λ r. ⌜ r ≡ if2Word ⌝ }
+{
+    0x01bd_ef3b_e996_15d2
+}
+
+pub fn if2_octets(t: usize) -> usize
+    requires { ⌜ t ≤ 9 ⌝ }
+    ensures { λ r. ⌜ r ≡ octets if2 t ⌝ }
+{
+    ((if2_word() >> (6 * t)) & 63) as usize
 }
 
 // Whether a frame carries indication, request and CRC.

@@ -154,35 +154,32 @@ pub record Moves (f g : Format) (t i a c : ℕ) (last : Bool) (j : ℕ) : Type 0
   pub near : (i ≤ 3) × (j ≤ 3) × (c ≤ 64)
   pub ends : (src out : List ℕ) (x : Frame) → x .type ≡ t → Carriable f g src x out → (z : ℕ) × (r : List Bool) × Ends src i a c (behind g (x .core)) z r
 
--- ---- what the movers ask and give, by the code's numbers: k bits of core, n octets in IF2, the core from octet i or j on
+-- ---- what the movers ask and give, by the code's numbers: m octets of core, n in IF2, the core from octet i or j on
 
-module _ (t k n : ℕ) (h : t ≤ 9) (ek : k ≡ coreBits t) (en : n ≡ octets if2 t) where
-  core-octets : (k + 7) / 8 ≡ coreOctets t
-  core-octets = ap (λ k. (k + 7) / 8) ek
-
-  pub some-octet : (1 ≤ (k + 7) / 8) × (1 ≤ n)
-  some-octet = let s = sizes t h in (omega (arith, core-octets, s .some), omega (arith, s .some, s .in-if2, s .one))
+module _ (t m n : ℕ) (h : t ≤ 9) (em : m ≡ coreOctets t) (en : n ≡ octets if2 t) where
+  pub some-octet : (1 ≤ m) × (1 ≤ n)
+  some-octet = let s = sizes t h in (omega (arith, em, s .some), omega (arith, s .some, s .in-if2, s .one))
 
   -- to IF2
-  up-move : (f : Format) → f ≢ if2 → Moves f if2 t (coreAt f) 3 ((k + 7) / 8 - 1) (not (eqb t 1)) 1
+  up-move : (f : Format) → f ≢ if2 → Moves f if2 t (coreAt f) 3 (m - 1) (not (eqb t 1)) 1
   up-move f nf =
       let s = sizes t h in
       let b = core-at-most f in
       let a = aligned-header f t nf h in
       record {
         start = refl;
-        count = omega (arith, core-octets, s .some, s .in-if2, s .one);
-        inside = omega (arith, core-octets, a .1, s .some);
-        near = (b, omega arith, omega (arith, core-octets, s .few));
+        count = omega (arith, em, s .some, s .in-if2, s .one);
+        inside = omega (arith, em, a .1, s .some);
+        near = (b, omega arith, omega (arith, em, s .few));
         ends = λ src out x ex c. (
           fillBits f t,
           after f if2 t src out x h ex c,
-          subst (λ q. Ends src (coreAt f) 3 (q - 1) (drop 3 (x .core)) (fillBits f t) (after f if2 t src out x h ex c)) (sym core-octets) (whole-ends f if2 t src out x h ex c nf),
+          subst (λ q. Ends src (coreAt f) 3 (q - 1) (drop 3 (x .core)) (fillBits f t) (after f if2 t src out x h ex c)) (sym em) (whole-ends f if2 t src out x h ex c nf),
         );
       }
 
-  pub moves-up : (f : Format) (i : ℕ) → f ≢ if2 → i ≡ coreAt f → Moves f if2 t i 3 ((k + 7) / 8 - 1) (not (eqb t 1)) 1
-  moves-up f i nf e = subst (λ i. Moves f if2 t i 3 ((k + 7) / 8 - 1) (not (eqb t 1)) 1) (sym e) (up-move f nf)
+  pub moves-up : (f : Format) (i : ℕ) → f ≢ if2 → i ≡ coreAt f → Moves f if2 t i 3 (m - 1) (not (eqb t 1)) 1
+  moves-up f i nf e = subst (λ i. Moves f if2 t i 3 (m - 1) (not (eqb t 1)) 1) (sym e) (up-move f nf)
 
   -- from IF2
   down-move : (g : Format) → g ≢ if2 → Moves if2 g t 0 5 (n - 1) (eqb t 1) (coreAt g)
@@ -208,15 +205,15 @@ module _ (t k n : ℕ) (h : t ≤ 9) (ek : k ≡ coreBits t) (en : n ≡ octets 
 
   module _ (f g : Format) (i j : ℕ) (src out : List ℕ) (x : Frame) (nf : f ≢ if2) (ng : g ≢ if2) (ei : i ≡ coreAt f) (ej : j ≡ coreAt g) (ex : x .type ≡ t)
       (c : Carriable f g src x out) where
-    pub over-asks : ((k + 7) / 8 ≤ 64) × (i + (k + 7) / 8 ≤ length src) × (j + (k + 7) / 8 ≤ length out)
+    pub over-asks : (m ≤ 64) × (i + m ≤ length src) × (j + m ≤ length out)
     over-asks = (
-      omega (arith, core-octets, sizes t h .few),
-      omega (arith, core-octets, aligned-header f t nf h .1, source-long f g t src out x h ex c),
-      omega (arith, core-octets, aligned-header g t ng h .1, room-there f g t src out x h ex c),
+      omega (arith, em, sizes t h .few),
+      omega (arith, em, aligned-header f t nf h .1, source-long f g t src out x h ex c),
+      omega (arith, em, aligned-header g t ng h .1, room-there f g t src out x h ex c),
     )
 
     pub over-gives : (d : List ℕ) → Octets out → Octets d
-        → bits d ≡ copied (bits out) (8 * j) (drop (8 * i) (bits src)) (8 * ((k + 7) / 8))
+        → bits d ≡ copied (bits out) (8 * j) (drop (8 * i) (bits src)) (8 * m)
         → d ≡ take (coreAt g) out ++ (packs (octets g t - coreAt g) (behind g (x .core)) ++ drop (octets g t) out)
     over-gives d o₀ o e =
         let w = x .core in
@@ -225,9 +222,9 @@ module _ (t k n : ℕ) (h : t ≤ 9) (ek : k ≡ coreBits t) (en : n ≡ octets 
         let s : drop (8 * i) (bits src) ≡ w ++ (replicate (fillBits f t) false ++ after f g t src out x h ex c) =
         ap (λ q. drop (8 * q) (bits src)) ei ∙ whole-stream f g t src out x h ex c nf in
         let l : 8 * coreOctets t ≤ length (drop (8 * i) (bits src)) =
-        omega (arith, length-drop (8 * i) (bits src), length-bits src, over-asks .1, core-octets) in
+        omega (arith, length-drop (8 * i) (bits src), length-bits src, over-asks .1, em) in
         copied-octets d out j (coreOctets t) (drop (8 * i) (bits src)) o o₀ l
-        (e ∙ ap (λ q. copied (bits out) (8 * j) (drop (8 * i) (bits src)) (8 * q)) core-octets)
+        (e ∙ ap (λ q. copied (bits out) (8 * j) (drop (8 * i) (bits src)) (8 * q)) em)
         ∙ ap (λ v. take j out ++ (v ++ drop (j + coreOctets t) out))
         (ap (packs (coreOctets t)) s ∙ packs-padded (coreOctets t) w (fillBits f t) _ (omega (arith, whole-filled f g t src out x h ex c nf)))
         ∙ ap (λ b. take b out ++ (packs (coreOctets t) w ++ drop (b + coreOctets t) out)) ej

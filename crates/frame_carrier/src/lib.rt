@@ -2,8 +2,8 @@
 // is valid, so that behind its core there is nothing but zeros up to the frame's end. `carry_frame` is `pub` for the converter.
 use frame::Format;
 use frame::table::class_a;
-use frame::table::core_bits;
-use frame::table::octets_of;
+use frame::table::core_octets;
+use frame::table::if2_octets;
 use frame_builder::first_octet;
 use frame_reader::quality_in;
 use frame_reader::type_in;
@@ -77,7 +77,7 @@ fn over_to_if2(f: Format, t: usize, src: &[u8], out: &mut [u8])
     requires { ⌜ (t ≤ 9) × (formatOf f ≢ if2) × ((x : Frame) × (x .type ≡ t) × Carriable (formatOf f) if2 (now src) x (now out)) ⌝ }
     ensures { λ _. ⌜ CoreMoved (formatOf f) if2 t (now (src .entry)) (now (out .entry)) (now (out .exit)) ⌝ }
 {
-    let m = (core_bits(t) + 7) / 8;
+    let m = core_octets(t);
     move_by_three(src, core_at(f), m - 1, t != 1, out, 1);
 }
 
@@ -86,7 +86,7 @@ fn over_from_if2(g: Format, t: usize, src: &[u8], out: &mut [u8])
     requires { ⌜ (t ≤ 9) × (formatOf g ≢ if2) × ((x : Frame) × (x .type ≡ t) × Carriable if2 (formatOf g) (now src) x (now out)) ⌝ }
     ensures { λ _. ⌜ CoreMoved if2 (formatOf g) t (now (src .entry)) (now (out .entry)) (now (out .exit)) ⌝ }
 {
-    let n = octets_of(Format::If2, t);
+    let n = if2_octets(t);
     move_by_five(src, 0, n - 1, t == 1, out, core_at(g));
 }
 
@@ -95,7 +95,7 @@ fn over_whole(f: Format, g: Format, t: usize, src: &[u8], out: &mut [u8])
     requires { ⌜ (t ≤ 9) × (formatOf f ≢ if2) × (formatOf g ≢ if2) × ((x : Frame) × (x .type ≡ t) × Carriable (formatOf f) (formatOf g) (now src) x (now out)) ⌝ }
     ensures { λ _. ⌜ CoreMoved (formatOf f) (formatOf g) t (now (src .entry)) (now (out .entry)) (now (out .exit)) ⌝ }
 {
-    let m = (core_bits(t) + 7) / 8;
+    let m = core_octets(t);
     bits::copy_whole(src, core_at(f), m, out, core_at(g));
 }
 

@@ -2,7 +2,7 @@
 use borrow.Author.Needs.{needs}
 use mathlib.Core.Path.{refl}
 use mathlib.Core.Bool.{not}
-use Prim.Native.Nat.{_+_, _-_, _/_}
+use Prim.Native.Nat.{_-_}
 use native.Mathlib.Omega.{arith}
 use lib.Dec.{eqb}
 use Rattle.definitions.specs.Frames.{if2, octets}
@@ -11,12 +11,8 @@ use Rattle.frame_carrier.proofs.CoreLaws.{some-octet, moves-up, shifted
 use Rattle.frame_carrier.proofs.over_to_if2.Statement.{statement}
 use Rattle.frame_carrier.proofs.over_to_if2.Tie as tie
 
-core-bits-requires : tie.Need-core-bits-requires
-core-bits-requires c κs =
-    omega (arith, c .before .before .pre .0)
-
-add-m : tie.Need-add-m
-add-m c = search needs
+core-octets-requires : tie.Need-core-octets-requires
+core-octets-requires c κs = search needs
 
 core-at-requires : tie.Need-core-at-requires
 core-at-requires c κs = search needs
@@ -24,13 +20,13 @@ core-at-requires c κs = search needs
 sub-move-by-three : tie.Need-sub-move-by-three
 sub-move-by-three c =
     let a = c .before .before .before .before .args in
-    some-octet (a .t) (c .before .core-bits .result) (octets if2 (a .t)) (c .before .before .before .before .pre .0) (c .before .core-bits .ensures .0) refl .0
+    some-octet (a .t) (c .before .core-octets .result) (octets if2 (a .t)) (c .before .before .before .before .pre .0) (c .before .core-octets .ensures) refl .0
 
 move-by-three-requires : tie.Need-move-by-three-requires
 move-by-three-requires c κs =
     let a = c .before .before .before .before .before .args in
     let s = c .before .before .before .before .before .pre .2 in
-    let q = shifted-asks (formatOf (a .f)) if2 (a .t) (c .before .core-at .result) 3 ((c .before .before .core-bits .result + 7) / 8 - 1) (not (eqb (a .t) 1)) 1 (c .before .before .before .before .before .pre .0) (moves-up (a .t) (c .before .before .core-bits .result) (octets if2 (a .t)) (c .before .before .before .before .before .pre .0) (c .before .before .core-bits .ensures .0) refl (formatOf (a .f)) (c .before .core-at .result) (c .before .before .before .before .before .pre .1) (c .before .core-at .ensures .0)) (a .src .now) (a .out .now) (s .0) (s .1) (s .2) in
+    let q = shifted-asks (formatOf (a .f)) if2 (a .t) (c .before .core-at .result) 3 (c .before .before .core-octets .result - 1) (not (eqb (a .t) 1)) 1 (c .before .before .before .before .before .pre .0) (moves-up (a .t) (c .before .before .core-octets .result) (octets if2 (a .t)) (c .before .before .before .before .before .pre .0) (c .before .before .core-octets .ensures) refl (formatOf (a .f)) (c .before .core-at .result) (c .before .before .before .before .before .pre .1) (c .before .core-at .ensures .0)) (a .src .now) (a .out .now) (s .0) (s .1) (s .2) in
     (q .0, q .1, q .2 .0, q .2 .1, q .2 .2)
 
 same-length : tie.Need-same-length
@@ -40,14 +36,14 @@ returns : tie.Need-returns
 returns c =
     λ x ex v.
     let a = c .before .before .before .before .before .before .before .before .args in
-    shifted-gives (formatOf (a .f)) if2 (a .t) (c .before .before .before .before .core-at .result) 3 ((c .before .before .before .before .before .core-bits .result + 7) / 8 - 1) (not (eqb (a .t) 1)) 1 (c .before .before .before .before .before .before .before .before .pre .0) (moves-up (a .t) (c .before .before .before .before .before .core-bits .result) (octets if2 (a .t)) (c .before .before .before .before .before .before .before .before .pre .0) (c .before .before .before .before .before .core-bits .ensures .0) refl (formatOf (a .f)) (c .before .before .before .before .core-at .result) (c .before .before .before .before .before .before .before .before .pre .1) (c .before .before .before .before .core-at .ensures .0)) (a .src .now) (a .out .now) x ex v _ (c .before .before .move-by-three .ensures)
+    shifted-gives (formatOf (a .f)) if2 (a .t) (c .before .before .before .before .core-at .result) 3 (c .before .before .before .before .before .core-octets .result - 1) (not (eqb (a .t) 1)) 1 (c .before .before .before .before .before .before .before .before .pre .0) (moves-up (a .t) (c .before .before .before .before .before .core-octets .result) (octets if2 (a .t)) (c .before .before .before .before .before .before .before .before .pre .0) (c .before .before .before .before .before .core-octets .ensures) refl (formatOf (a .f)) (c .before .before .before .before .core-at .result) (c .before .before .before .before .before .before .before .before .pre .1) (c .before .before .before .before .core-at .ensures .0)) (a .src .now) (a .out .now) x ex v _ (c .before .before .move-by-three .ensures)
 
 pub over-to-if2-spec : {M : Type 1} → statement M
 over-to-if2-spec =
     tie.close
     (tie.spec
-    core-bits-requires
-    add-m
+    core-octets-requires
+    
     core-at-requires
     sub-move-by-three
     move-by-three-requires
