@@ -1,7 +1,7 @@
 -- Writing in another format: what is written and what is still to come make the conversion, and a frame goes from the one to the other.
 -- Assumes nothing.
 use mathlib.Core.Path.{_≡_, refl, sym, ap, ap₂, _∙_, subst}
-use mathlib.Core.Bool.{true, false}
+use mathlib.Core.Bool.{false}
 use mathlib.Core.Logic.{_≢_}
 use mathlib.Core.List.{List, [], _∷_, _++_, map, append-assoc, append-nil}
 use Prim.Native.Nat.{ℕ, _+_, _-_, _<_, _≤_}
@@ -9,7 +9,7 @@ use native.Mathlib.Omega.{arith}
 use lib.ListN.{length, take, drop, length-append, length-take, length-drop, take-append-drop, drop-of-length-le}
 use lib.Seq.{take-at, drop-at, drop-drop, take-all}
 use Rattle.bits.specs.Bits.{bits, Octets}
-use Rattle.definitions.specs.Frames.{Format, Frame, known, octets, layout, typeIn, frameIn}
+use Rattle.definitions.specs.Frames.{Format, Frame, octets, layout, typeIn, frameIn}
 use Rattle.definitions.specs.Reading.{readFrame, overwritten}
 use Rattle.definitions.specs.Claims.{Valid}
 use Rattle.definitions.proofs.Tables.{sized}
@@ -106,9 +106,6 @@ module _ {f g : Format} {r : ℕ} {s d₀ d : List ℕ} {at to : ℕ} (w : Writt
 
   pub front-type : typeIn f (bits (drop at s)) ≡ at-front .x .type
   front-type = sym (type-frame f (bits (drop at s))) ∙ ap (λ y. y .type) (at-front .shown)
-
-  pub front-known : known (typeIn f (bits (drop at s))) ≡ true
-  front-known = ap known front-type ∙ at-front .valid .type-known
 
   pub front-octets : octets f (at-front .x .type) + length (layouts f (at-front .zs)) ≡ length s - at
   front-octets =

@@ -1,14 +1,14 @@
 -- The sizes of a core in each format, and where the source's bits are the core and its zeros. Assumes nothing.
 use mathlib.Core.Path.{_≡_, refl, sym, ap, ap₂, _∙_, subst}
-use mathlib.Core.Bool.{Bool, true, false, not, _&&_, cond}
-use mathlib.Core.Logic.{_≢_, inl, inr}
+use mathlib.Core.Bool.{Bool, true, false, not, _&&_}
+use mathlib.Core.Logic.{_≢_}
 use mathlib.Core.List.{List, _++_}
-use Prim.Native.Nat.{ℕ, _+_, _-_, _*_, _/_, _<_, _≤_}
+use Prim.Native.Nat.{ℕ, _+_, _-_, _*_, _<_, _≤_}
 use native.Mathlib.Omega.{arith}
-use lib.Dec.{eqb, leb, ltb}
+use lib.Dec.{eqb, leb}
 use lib.ListN.{length, take, drop, replicate, length-take, length-drop}
 use lib.Seq.{drop-drop, drop-append-le}
-use borrow.Author.Tests.{eqb-true, leb-true, leb-false, le-leb, ltb-true, ltb-false}
+use borrow.Author.Tests.{eqb-true, leb-true, le-leb}
 use Rattle.bits.specs.Bits.{bits, packs, one-if, Octets, copied}
 use Rattle.bits.proofs.BitLaws.{length-bits}
 use Rattle.bits.proofs.Tests.{and-left, and-right, every-below}

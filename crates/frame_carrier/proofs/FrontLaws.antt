@@ -1,6 +1,6 @@
 -- The octets in front of the core: each is the window of the frame's bits at its place. Assumes nothing.
 use mathlib.Core.Path.{_≡_, refl, sym, ap, ap₂, _∙_, subst}
-use mathlib.Core.Bool.{Bool, true, false, not, _&&_, _||_, cond}
+use mathlib.Core.Bool.{Bool, true, false, not, _||_, cond}
 use mathlib.Core.Logic.{_≢_}
 use mathlib.Core.List.{List, [], _∷_, _++_, append-assoc, append-nil}
 use Prim.Native.Nat.{ℕ, suc, _+_, _-_, _*_, _/_, _^_, _<_, _≤_}
@@ -9,10 +9,10 @@ use native.Mathlib.Omega.{arith}
 use lib.Dec.{eqb, leb}
 use lib.ListN.{length, take, drop, getD, set, length-append, length-take}
 use lib.Seq.{drop-at, take-take}
-use borrow.Author.Tests.{leb-true, le-leb, lt-leb, eqb-true, not-true}
+use borrow.Author.Tests.{leb-true, le-leb, lt-leb, eqb-true}
 use Rattle.bits.specs.Bits.{odd, digits, num, bits, packs, pack, octetsFor, Octets}
 use Rattle.bits.proofs.BitLaws.{length-digits, num-lt, num-digits, num-front, num-append, take-packed, octet-field}
-use Rattle.bits.proofs.Tests.{and-left, and-right, or-else, given, every-below}
+use Rattle.bits.proofs.Tests.{or-else, given, every-below}
 use Rattle.parity.specs.Crc.{crc}
 use Rattle.parity.proofs.Guarded.{octet-bits}
 use Rattle.definitions.specs.Frames.{Format, if1, if2, storage, Frame, known, coreBits, classA, octets, coreOctets, modesAndCrc, header, layout, qualityIn, typeIn, frameIn}
@@ -21,9 +21,9 @@ use Rattle.definitions.proofs.Tables.{sized, known-below, class-a-within}
 use Rattle.definitions.proofs.Frames.{length-header, judged, begins-read}
 use Rattle.recordings.specs.Conversion.{withModes, withoutModes, carried}
 use Rattle.frame_builder.proofs.BuilderLaws.{firstBits, long-header, octets-three, second-octet}
-use Rattle.frame_carrier.specs.Carriable.{isIf2, coreAt, behind, Carriable, CoreMoved}
+use Rattle.frame_carrier.specs.Carriable.{coreAt, behind, Carriable, CoreMoved}
 use Rattle.frame_carrier.proofs.CarryLaws.{frameBits, layout-packs, joined}
-use Rattle.frame_carrier.proofs.CoreLaws.{if2-is, if2-not, sizes, aligned-header, source-long, whole-stream}
+use Rattle.frame_carrier.proofs.CoreLaws.{sizes, aligned-header, source-long, whole-stream}
 
 -- ---- numbers of joined bits
 
@@ -305,15 +305,3 @@ core-in f g src out x t i eg c et h ei =
     let a = aligned-header f t (λ e. c .others (e ∙ sym eg)) h in
     let l = source-long f g t src out x h (sym et) c in
     omega (arith, a .1, sizes t h .some)
-
--- ---- which mover
-
-pub both-not : (f g : Format) → (not (isIf2 f) && not (isIf2 g)) ≡ true → (f ≢ if2) × (g ≢ if2)
-both-not f g e = (if2-not f (not-true _ (and-left _ _ e)), if2-not g (not-true _ (and-right (not (isIf2 f)) _ e)))
-
-pub one-is : (f g : Format) → (not (isIf2 f) && not (isIf2 g)) ≡ false → isIf2 g ≡ false → f ≡ if2
-one-is f g e q = if2-is f (go (isIf2 f) refl)
-  where
-    go : (b : Bool) → isIf2 f ≡ b → isIf2 f ≡ true
-    go true p = p
-    go false p = let z : true ≡ false = sym (ap₂ (λ a b. not a && not b) p q) ∙ e in absurd (let y : _≡_ {A = ℕ} 0 1 = cc in omega arith)

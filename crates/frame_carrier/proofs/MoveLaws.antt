@@ -1,9 +1,8 @@
 -- The core's octets in the target are windows of the source's bits; behind the core the source has zeros up to its frame's end. Assumes nothing.
-use mathlib.Core.Path.{_≡_, sym, ap, ap₂, _∙_, subst}
-use mathlib.Core.Logic.{⊎-elim}
+use mathlib.Core.Path.{_≡_, sym, ap, ap₂, _∙_}
 use mathlib.Core.Bool.{Bool, false}
 use mathlib.Core.List.{List, [], _∷_, _++_, append-assoc}
-use Prim.Native.Nat.{ℕ, suc, _+_, _-_, _*_, _%_, _^_, _<_, _≤_}
+use Prim.Native.Nat.{ℕ, suc, _+_, _-_, _*_, _<_, _≤_}
 use native.Mathlib.Omega.{arith}
 use lib.ListN.{length, take, drop, getD, set, replicate, length-append, length-take, length-drop, length-replicate}
 use lib.Seq.{take-at, drop-drop, drop-append-le, drop-cons, set-at}
@@ -60,4 +59,3 @@ module _ (src d₀ d₁ : List ℕ) (i a c j : ℕ) (w : List Bool) (z : ℕ) (r
       ∙ ap (λ t. take j d₀ ++ t)
       (sym (append-assoc (packs c w) (v ∷ []) q)
       ∙ ap₂ (λ u n. u ++ drop n d₀) (ap (λ u. packs c w ++ (u ∷ [])) ev ∙ sym (packs-more c w)) k)
-

@@ -1,11 +1,11 @@
 -- What is asked where a frame is carried over to another format, and where its core begins an octet there.
 use mathlib.Core.Path.{_≡_}
 use mathlib.Core.Bool.{Bool, true, false}
-use mathlib.Core.Logic.{_≢_, _⊎_}
+use mathlib.Core.Logic.{_≢_}
 use mathlib.Core.List.{List, _++_}
-use Prim.Native.Nat.{ℕ, _+_, _-_, _*_, _<_, _≤_}
+use Prim.Native.Nat.{ℕ, _+_, _-_, _*_, _≤_}
 use lib.ListN.{length, take, drop, replicate}
-use Rattle.bits.specs.Bits.{one-if, bits, packs}
+use Rattle.bits.specs.Bits.{bits, packs}
 use Rattle.definitions.specs.Frames.{Format, if1, if2, storage, Frame, octets}
 use Rattle.definitions.specs.Claims.{Begins}
 

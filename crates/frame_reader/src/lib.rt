@@ -228,23 +228,12 @@ fn plain_octets(f: Format, s: &[u8]) -> usize
     if sid_fine(f, s, k) { size } else { 0 }
 }
 
-// The same, with the format as a constant in each call: the compiler then makes the tests of each format without asking for it again.
-fn plain_front(f: Format, s: &[u8]) -> usize
-    ensures { λ n. ⌜ (0 < n → Plain (formatOf f) (now (s .entry)) n) ⌝ }
-{
-    match f {
-        Format::If1 => plain_octets(Format::If1, s),
-        Format::If2 => plain_octets(Format::If2, s),
-        Format::Storage => plain_octets(Format::Storage, s),
-    }
-}
-
 // The frame at the start of `s`, where more may follow; its count is the octets that it takes. Plain frames come first: they are the most,
 // and this way is short enough to become part of the loop that calls it.
 pub fn read_front(f: Format, s: &[u8]) -> Reading
     ensures { λ r. ⌜ readingOf (λ t. coreIn (formatOf f) t (bits (now (s .entry)))) r ≡ readFrame (formatOf f) (now (s .entry)) ⌝ }
 {
-    let n = plain_front(f, s);
+    let n = plain_octets(f, s);
     if 0 < n {
         let h = FrameHeader {
             frame_type: type_in(f, s),

@@ -32,9 +32,11 @@ is-if2-requires-2 c κs = search needs
 over-from-if2-requires : tie.Need-over-from-if2-requires
 over-from-if2-requires c κs =
     let a = c .before .before .before .before .before .before .before .args in
-    let p = c .before .before .before .before .before .before .before .pre in
-    (p .0, if2-not (formatOf (a .g)) (sym (c .before .before .before .before .is-if2 .ensures) ∙ c .before .before .before .if1 .left),
-    subst (λ f. (x : Frame) × (x .type ≡ a .t) × Carriable f (formatOf (a .g)) (a .src .now) x (a .out .now)) (if2-is (formatOf (a .f)) (sym (c .before .before .is-if22 .ensures) ∙ c .before .if2 .taken)) (p .1))
+    let p = c .before .before .before .before .before .before .before .pre in (
+      p .0,
+      if2-not (formatOf (a .g)) (sym (c .before .before .before .before .is-if2 .ensures) ∙ c .before .before .before .if1 .left),
+      subst (λ f. (x : Frame) × (x .type ≡ a .t) × Carriable f (formatOf (a .g)) (a .src .now) x (a .out .now)) (if2-is (formatOf (a .f)) (sym (c .before .before .is-if22 .ensures) ∙ c .before .if2 .taken)) (p .1),
+    )
 
 same-length-2 : tie.Need-same-length-2
 same-length-2 c = search needs

@@ -3,7 +3,6 @@ use borrow.Author.Needs.{needs}
 use mathlib.Core.Path.{refl}
 use mathlib.Core.Bool.{not}
 use Prim.Native.Nat.{_-_}
-use native.Mathlib.Omega.{arith}
 use lib.Dec.{eqb}
 use Rattle.definitions.specs.Frames.{if2, octets}
 use Rattle.frame.specs.Answers.{formatOf}
@@ -43,7 +42,6 @@ over-to-if2-spec =
     tie.close
     (tie.spec
     core-octets-requires
-    
     core-at-requires
     sub-move-by-three
     move-by-three-requires

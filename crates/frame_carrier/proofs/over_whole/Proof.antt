@@ -1,7 +1,6 @@
 -- `frame_carrier::over_whole` meets its contract: the core's octets go over as they are. Assumes nothing.
 use borrow.Author.Needs.{needs}
 use mathlib.Core.Path.{refl}
-use native.Mathlib.Omega.{arith}
 use Rattle.definitions.specs.Frames.{if2, octets}
 use Rattle.frame.specs.Answers.{formatOf}
 use Rattle.frame_carrier.proofs.CoreLaws.{over-asks, over-gives}
