@@ -20,7 +20,7 @@ ghost use Prim.Native.Nat.{_+_, _<_, _≤_};
 ghost use lib.Dec.{leb};
 ghost use lib.ListN.{length, drop};
 ghost use Rattle.bits.specs.Bits.{bits, num, clear};
-ghost use Rattle.definitions.specs.Frames.{known, octets, carriesModes, spareBefore, spareAfter, typeIn, qualityIn, coreIn, frameIn, fillClear, spareClear, fieldsGood, crcGood};
+ghost use Rattle.definitions.specs.Frames.{if1, if2, storage, known, octets, carriesModes, spareBefore, spareAfter, typeIn, qualityIn, coreIn, frameIn, fillClear, spareClear, fieldsGood, crcGood};
 ghost use Rattle.definitions.specs.Reading.{readWith, readFrame, intoBuffer, readCall};
 ghost use Rattle.frame_reader.specs.Buffer.{IntoBuffer, Plain};
 ghost use Rattle.frame.specs.Answers.{formatOf, frameWith, readingOf};
@@ -228,12 +228,41 @@ fn plain_octets(f: Format, s: &[u8]) -> usize
     if sid_fine(f, s, k) { size } else { 0 }
 }
 
+// The same in each format: so the compiler makes the tests of one format without asking which it is.
+fn plain_if1(s: &[u8]) -> usize
+    ensures { λ n. ⌜ (0 < n → Plain if1 (now (s .entry)) n) ⌝ }
+{
+    plain_octets(Format::If1, s)
+}
+
+fn plain_if2(s: &[u8]) -> usize
+    ensures { λ n. ⌜ (0 < n → Plain if2 (now (s .entry)) n) ⌝ }
+{
+    plain_octets(Format::If2, s)
+}
+
+fn plain_storage(s: &[u8]) -> usize
+    ensures { λ n. ⌜ (0 < n → Plain storage (now (s .entry)) n) ⌝ }
+{
+    plain_octets(Format::Storage, s)
+}
+
+fn plain_front(f: Format, s: &[u8]) -> usize
+    ensures { λ n. ⌜ (0 < n → Plain (formatOf f) (now (s .entry)) n) ⌝ }
+{
+    match f {
+        Format::If1 => plain_if1(s),
+        Format::If2 => plain_if2(s),
+        Format::Storage => plain_storage(s),
+    }
+}
+
 // The frame at the start of `s`, where more may follow; its count is the octets that it takes. Plain frames come first: they are the most,
 // and this way is short enough to become part of the loop that calls it.
 pub fn read_front(f: Format, s: &[u8]) -> Reading
     ensures { λ r. ⌜ readingOf (λ t. coreIn (formatOf f) t (bits (now (s .entry)))) r ≡ readFrame (formatOf f) (now (s .entry)) ⌝ }
 {
-    let n = plain_octets(f, s);
+    let n = plain_front(f, s);
     if 0 < n {
         let h = FrameHeader {
             frame_type: type_in(f, s),

@@ -6,21 +6,21 @@ use Rattle.frame_reader.proofs.ReaderLaws.{plain-reads}
 use Rattle.frame_reader.proofs.read_front.Statement.{statement}
 use Rattle.frame_reader.proofs.read_front.Tie as tie
 
-plain-octets-requires : tie.Need-plain-octets-requires
-plain-octets-requires c κs = search needs
+plain-front-requires : tie.Need-plain-front-requires
+plain-front-requires c κs = search needs
 
 type-in-requires : tie.Need-type-in-requires
 type-in-requires c κs =
-    c .before .plain-octets .ensures (c .if1 .taken) .some
+    c .before .plain-front .ensures (c .if1 .taken) .some
 
 quality-in-requires : tie.Need-quality-in-requires
 quality-in-requires c κs =
-    c .before .before .plain-octets .ensures (c .before .if1 .taken) .some
+    c .before .before .plain-front .ensures (c .before .if1 .taken) .some
 
 returns : tie.Need-returns
 returns c =
     let a = c .before .before .before .before .before .args in
-    plain-reads (formatOf (a .f)) (a .s .now) (c .before .before .before .plain-octets .result) (c .before .before .before .plain-octets .ensures (c .before .before .if1 .taken)) _ (c .before .type-in .ensures) (c .quality-in .ensures) refl refl
+    plain-reads (formatOf (a .f)) (a .s .now) (c .before .before .before .plain-front .result) (c .before .before .before .plain-front .ensures (c .before .before .if1 .taken)) _ (c .before .type-in .ensures) (c .quality-in .ensures) refl refl
 
 judge-requires : tie.Need-judge-requires
 judge-requires c κs = search needs
@@ -32,7 +32,7 @@ pub read-front-spec : {M : Type 1} → statement M
 read-front-spec =
     tie.close
     (tie.spec
-    plain-octets-requires
+    plain-front-requires
     type-in-requires
     quality-in-requires
     returns
