@@ -137,7 +137,7 @@ fn best_median(mut times: Vec<f64>) -> (f64, f64) {
     (times[0], times[times.len() / 2])
 }
 
-/// Library, baseline and memcpy in turn, so that a change of the machine's speed meets all three.
+/// Library, baseline and memcpy in turn, all directions a run: a change of the machine's speed meets all three, and no direction alone.
 fn compare(kind: &str, runs: usize) {
     let (recs, frames) = recordings(kind, LIMIT);
     check(kind, &recs);
@@ -147,14 +147,20 @@ fn compare(kind: &str, runs: usize) {
     println!("| direction | library best | median | baseline best | median | ratio of bests | of medians | memcpy best |");
     println!("|---|---|---|---|---|---|---|---|");
     let mut out = vec![0xA7; LIMIT];
-    for (from, rec) in FORMATS.into_iter().zip(&recs) {
-        for to in FORMATS {
-            let mut times = [vec![], vec![], vec![]];
-            for _ in 0..runs {
+    let mut times: Vec<[Vec<f64>; 3]> = vec![Default::default(); FORMATS.len() * FORMATS.len()];
+    for _ in 0..runs {
+        let mut row = times.iter_mut();
+        for (from, rec) in FORMATS.into_iter().zip(&recs) {
+            for (to, times) in FORMATS.into_iter().zip(&mut row) {
                 times[0].push(nanoseconds(|| library(from, to, black_box(rec), black_box(&mut out))));
                 times[1].push(nanoseconds(|| convert::<Bitwise>(from, to, REQUEST, black_box(rec), black_box(&mut out))));
                 times[2].push(nanoseconds(|| black_box(&mut out[..rec.len()]).copy_from_slice(black_box(rec))));
             }
+        }
+    }
+    let mut row = times.into_iter();
+    for from in FORMATS {
+        for (to, times) in FORMATS.into_iter().zip(&mut row) {
             let [l, b, m] = times.map(best_median).map(|(best, median)| (best / frames as f64, median / frames as f64));
             println!(
                 "| {} to {} | {:.2} | {:.2} | {:.2} | {:.2} | {:.2} | {:.2} | {:.2} |",
@@ -171,13 +177,21 @@ fn linear_cost(runs: usize) {
     println!("### Linear cost\n\nMixed frames; best nanoseconds per frame of the library in {runs} runs.\n");
     println!("| direction | 1 MB | 4 MB | 16 MB |\n|---|---|---|---|");
     let mut out = vec![0xA7; LIMIT];
+    let mut best = [[f64::INFINITY; 3]; 9];
+    for _ in 0..runs {
+        for (i, from) in FORMATS.into_iter().enumerate() {
+            for (k, to) in FORMATS.into_iter().enumerate() {
+                for (best, (recs, frames)) in best[3 * i + k].iter_mut().zip(&sizes) {
+                    let time = nanoseconds(|| library(from, to, black_box(&recs[i]), black_box(&mut out)));
+                    *best = best.min(time / *frames as f64);
+                }
+            }
+        }
+    }
     for (i, from) in FORMATS.into_iter().enumerate() {
-        for to in FORMATS {
-            let best = sizes.each_ref().map(|(recs, frames)| {
-                let times = (0..runs).map(|_| nanoseconds(|| library(from, to, black_box(&recs[i]), black_box(&mut out))));
-                best_median(times.collect()).0 / *frames as f64
-            });
-            println!("| {} to {} | {:.2} | {:.2} | {:.2} |", name(from), name(to), best[0], best[1], best[2]);
+        for (k, to) in FORMATS.into_iter().enumerate() {
+            let [one, four, sixteen] = best[3 * i + k];
+            println!("| {} to {} | {one:.2} | {four:.2} | {sixteen:.2} |", name(from), name(to));
         }
     }
 }
@@ -189,7 +203,7 @@ fn usage() -> ! {
 
 fn main() {
     let mut args = std::env::args().skip(1);
-    let mut runs = 11;
+    let mut runs = 31;
     let mut kinds = Vec::new();
     while let Some(arg) = args.next() {
         match &arg[..] {
