@@ -15,7 +15,6 @@ enum-told c = search needs
 enum-told-2 : tie.Need-enum-told-2
 enum-told-2 c = search needs
 
--- /work/main/target/rlib/recording_reader.rlib/interface/lang/src/lib.rt:4:38
 enum-told-3 : tie.Need-enum-told-3
 enum-told-3 c = search needs
 
