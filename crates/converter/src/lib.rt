@@ -1,6 +1,7 @@
 // Converting a recording among the three formats: everything is read, and only then written. `convert` and `convert_length` are entries.
 use frame::Format;
 use frame::FormatFound;
+use frame::HIGHEST_MODE;
 use frame::Refusal;
 use frame::format_numbered;
 use frame::table::octets_by_bits;
@@ -23,9 +24,6 @@ ghost use Rattle.recordings.specs.Conversion.{converted, conversion, countedAt,
 ghost use Rattle.frame.specs.Answers.{formatOf};
 ghost use Rattle.recording_reader.specs.Answers.{countsOf};
 ghost use Rattle.converter.specs.Output.{IntoBuffer, Convertible, Same};
-
-// The highest mode.
-const HIGHEST_MODE: u64 = 8;
 
 // Copies `s` to the front of `out`.
 fn copy_all(s: &[u8], out: &mut [u8])

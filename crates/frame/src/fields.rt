@@ -1,5 +1,7 @@
 // Refusal 6's test: the modes of a frame that is read or to be built.
 use crate::Format;
+use crate::HIGHEST_MODE;
+use crate::SID;
 use crate::table::carries_modes;
 ghost use mathlib.Core.Path.{_≡_};
 ghost use mathlib.Core.Bool.{Bool};
@@ -9,12 +11,6 @@ ghost use lib.ListN.{drop};
 ghost use Rattle.bits.specs.Bits.{num};
 ghost use Rattle.definitions.specs.Frames.{frameBy, sidGood, uncarriedZero, fieldsGood};
 ghost use Rattle.frame.specs.Answers.{formatOf};
-
-// The type of a SID frame.
-const SID: u64 = 9;
-
-// The highest mode.
-const HIGHEST_MODE: u64 = 8;
 
 // Of a SID frame the indication is 0, and the mode at most 8.
 fn sid_good(t: u64, i: u64, mode: u64) -> bool

@@ -8,6 +8,17 @@ ghost use mathlib.Core.Path.{_≡_};
 ghost use Rattle.definitions.specs.Reading.{formatNumbered};
 ghost use Rattle.frame.specs.Answers.{numberOf, foundOf};
 
+// The highest mode.
+pub const HIGHEST_MODE: u64 = 8;
+
+// The type of a SID frame, and where its core has the mode, in bits.
+pub const SID: u64 = 9;
+
+pub const SID_MODE_AT: usize = 36;
+
+// Where IF1 has the core of a frame that carries modes, in octets.
+pub const IF1_CORE_AT: usize = 3;
+
 // Document 01's formats 1, 2 and 3.
 pub enum Format {
     If1,

@@ -3,8 +3,11 @@
 use frame::Built;
 use frame::Format;
 use frame::FrameHeader;
+use frame::IF1_CORE_AT;
 use frame::Reading;
 use frame::Refusal;
+use frame::SID;
+use frame::SID_MODE_AT;
 use frame::fields::fields_good;
 use frame::table::carries_modes;
 use frame::table::class_a;
@@ -22,15 +25,8 @@ ghost use Rattle.definitions.specs.Reading.{bufferCore, buildCheck, buildFrame}
 ghost use Rattle.frame.specs.Answers.{formatOf, readingOf};
 ghost use Rattle.frame_builder.specs.Output.{Writable, runFrame, IntoOutput};
 
-// Where IF1 has the core, in bits and in octets.
+// Where IF1 has the core, in bits.
 const CORE_BIT: usize = 24;
-
-const CORE_AT: usize = 3;
-
-// The type of a SID frame, and where its core has the mode.
-const SID: u64 = 9;
-
-const SID_MODE_AT: usize = 36;
 
 // The octet of type and quality, with spare bits 0.
 pub fn first_octet(f: Format, t: u8, q: u8) -> u8
@@ -62,7 +58,7 @@ fn write_modes(h: FrameHeader, src: &[u8], from: usize, out: &mut [u8])
 {
     let t = h.frame_type as usize;
     bits::put_run(src, from, core_bits(t), out, CORE_BIT);
-    let crc = parity::crc_of(&out[CORE_AT..], class_a(t));
+    let crc = parity::crc_of(&out[IF1_CORE_AT..], class_a(t));
     out[0] = first_octet(Format::If1, h.frame_type, h.quality);
     out[1] = h.indication * 16 + h.request;
     out[2] = crc;

@@ -25,7 +25,7 @@ ghost use Rattle.frame_carrier.specs.Carriable.{isIf2, coreAt, Ends, Car
 const LAST_CORE: u8 = 9;
 
 // The highest mode.
-const HIGHEST_MODE: u8 = 8;
+const HIGHEST_MODE: u8 = frame::HIGHEST_MODE as u8;
 
 // The first octet that holds nothing but core.
 fn core_at(f: Format) -> usize

@@ -3,8 +3,10 @@
 use frame::Format;
 use frame::FormatFound;
 use frame::FrameHeader;
+use frame::IF1_CORE_AT;
 use frame::Reading;
 use frame::Refusal;
+use frame::SID_MODE_AT;
 use frame::fields::fields_good;
 use frame::format_numbered;
 use frame::table::carries_modes;
@@ -25,22 +27,17 @@ ghost use Rattle.definitions.specs.Reading.{readWith, readFrame, intoBuffer, re
 ghost use Rattle.frame_reader.specs.Buffer.{IntoBuffer, Plain};
 ghost use Rattle.frame.specs.Answers.{formatOf, frameWith, readingOf};
 
-// Where IF1 has the indication, the request and the CRC, in bits, and the core, in octets.
+// Where IF1 has the indication, the request and the CRC, in bits.
 const INDICATION_AT: usize = 8;
 
 const REQUEST_AT: usize = 12;
 
 const CRC_AT: usize = 16;
 
-const CORE_AT: usize = 3;
+// The papers' numbers at the widths that are asked here.
+const SID: usize = frame::SID as usize;
 
-// The type of a SID frame, and where its core has the mode.
-const SID: usize = 9;
-
-const SID_MODE_AT: usize = 36;
-
-// The highest mode.
-const HIGHEST_MODE: u8 = 8;
+const HIGHEST_MODE: u8 = frame::HIGHEST_MODE as u8;
 
 // The type that the first octet names.
 pub fn type_in(f: Format, s: &[u8]) -> u8
@@ -155,7 +152,7 @@ fn crc_good(f: Format, s: &[u8], t: usize) -> bool
     ensures { λ r. ⌜ r ≡ crcGood (formatOf f) (bits (now (s .entry))) ⌝ }
 {
     if carries_modes(f, t) {
-        let core = &s[CORE_AT..];
+        let core = &s[IF1_CORE_AT..];
         return bits::field_at(s, CRC_AT, 8) == parity::crc_of(core, class_a(t));
     }
     true

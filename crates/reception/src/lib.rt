@@ -1,6 +1,7 @@
 // The reception class of a frame, by its type, quality and STI. `reception_class` is an entry.
 use frame::Format;
 use frame::Refusal;
+use frame::SID;
 use frame::table::octets_of;
 ghost use mathlib.Core.Path.{_≡_};
 ghost use Rattle.definitions.specs.Reception.{speechClass, sidClass, classOf, receptionClass};
@@ -8,8 +9,6 @@ ghost use Rattle.reception.specs.Classes.{speechOf, sidOf, receptionOf, 
 
 // Types 0 to 8 are speech.
 const LAST_SPEECH: u64 = 8;
-
-const SID: u64 = 9;
 
 const SPEECH_LOST: u64 = 14;
 
