@@ -137,7 +137,8 @@ fn best_median(mut times: Vec<f64>) -> (f64, f64) {
     (times[0], times[times.len() / 2])
 }
 
-/// Library, baseline and memcpy in turn, all directions a run: a change of the machine's speed meets all three, and no direction alone.
+/// Library, baseline and memcpy in turn, all directions a run: a change of the machine's speed meets all three, and no direction alone. The
+/// first two change places from run to run, since whoever comes first meets other caches.
 fn compare(kind: &str, runs: usize) {
     let (recs, frames) = recordings(kind, LIMIT);
     check(kind, &recs);
@@ -148,12 +149,16 @@ fn compare(kind: &str, runs: usize) {
     println!("|---|---|---|---|---|---|---|---|");
     let mut out = vec![0xA7; LIMIT];
     let mut times: Vec<[Vec<f64>; 3]> = vec![Default::default(); FORMATS.len() * FORMATS.len()];
-    for _ in 0..runs {
+    for run in 0..runs {
         let mut row = times.iter_mut();
         for (from, rec) in FORMATS.into_iter().zip(&recs) {
             for (to, times) in FORMATS.into_iter().zip(&mut row) {
-                times[0].push(nanoseconds(|| library(from, to, black_box(rec), black_box(&mut out))));
-                times[1].push(nanoseconds(|| convert::<Bitwise>(from, to, REQUEST, black_box(rec), black_box(&mut out))));
+                for side in [run % 2, 1 - run % 2] {
+                    times[side].push(match side {
+                        0 => nanoseconds(|| library(from, to, black_box(rec), black_box(&mut out))),
+                        _ => nanoseconds(|| convert::<Bitwise>(from, to, REQUEST, black_box(rec), black_box(&mut out))),
+                    });
+                }
                 times[2].push(nanoseconds(|| black_box(&mut out[..rec.len()]).copy_from_slice(black_box(rec))));
             }
         }
