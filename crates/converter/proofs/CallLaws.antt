@@ -8,11 +8,11 @@ use lib.Dec.{eqb, leb}
 use lib.ListN.{length}
 use borrow.Author.Tests.{leb-true, le-leb, lt-leb, eqb-true, eq-eqb}
 use Rattle.bits.specs.Bits.{Octets}
-use Rattle.definitions.specs.Outcome.{Outcome, refused, ok}
+use Rattle.definitions.specs.Outcome.{refused, ok}
 use Rattle.definitions.specs.Frames.{Format, if1, if2, storage, Frame}
 use Rattle.definitions.specs.Reading.{formatNumbered, overwritten}
 use Rattle.definitions.proofs.Frames.{never}
-use Rattle.recordings.specs.Placed.{Placed, refusedAt, done, andThenAt, placed, unlessAt}
+use Rattle.recordings.specs.Placed.{Placed, refusedAt, done, andThenAt, unlessAt}
 use Rattle.recordings.specs.Recordings.{limit, readRecording, writeRecording}
 use Rattle.recordings.specs.Conversion.{converted, conversion, judged, convertCall, countedAt, lengthCall, bufferAfter}
 use Rattle.recordings.proofs.Claims.{reads-recordings}
@@ -39,57 +39,23 @@ module _ {A : Type 0} (from to request : ℕ) (next : Format → Format → Plac
   pub judged-passes : (f g : Format) → formatNumbered from ≡ ok f → formatNumbered to ≡ ok g → request ≤ 8 → judged from to request next ≡ next f g
   judged-passes f g e d h = rw (e, d, le-leb request 8 h)
 
--- the numbers alone
-abbrev both : Format → Format → Placed (Format × Format)
-both f g = done (f, g)
-
-abbrev pub direction : (from to request : ℕ) → Placed (Format × Format)
-direction from to request = judged from to request both
-
-abbrev chain : {A : Type 0} → Outcome Format → Outcome Format → Bool → (Format → Format → Placed A) → Placed A
-chain x y b next = placed x 0 0 (λ f. placed y 0 0 (λ g. unlessAt 11 b (next f g)))
-
--- numbers out of range are refused whatever would come next
-pub judged-refused : {A : Type 0} (from to request : ℕ) (next : Format → Format → Placed A) → refusedAt 11 0 0 ≡ direction from to request
-    → judged from to request next ≡ refusedAt 11 0 0
-judged-refused {A} from to request next h = go (formatNumbered from) (formatNumbered to) (leb request 8) h
-  where
-    eleven : (n : ℕ) → _≡_ {A = Placed (Format × Format)} (refusedAt 11 0 0) (refusedAt n 0 0) → _≡_ {A = Placed A} (refusedAt n 0 0) (refusedAt 11 0 0)
-    eleven n e = let d : n ≡ 11 = cc in ap (λ m. refusedAt m 0 0) d
-
-    go : (x y : Outcome Format) (b : Bool) → refusedAt 11 0 0 ≡ chain x y b both → chain x y b next ≡ refusedAt 11 0 0
-    go (refused n) y b e = eleven n e
-    go (ok f) (refused n) b e = eleven n e
-    go (ok f) (ok g) false e = refl
-    go (ok f) (ok g) true e = not-refused 11 0 0 _ (sym e)
-
--- the formats of numbers in range
-pub record Directed (from to request : ℕ) (f g : Format) : Type 0 where
-  pub source : formatNumbered from ≡ ok f
-  pub target : formatNumbered to ≡ ok g
-  pub mode : request ≤ 8
-
-pub directed : (from to request : ℕ) (f g : Format) → both f g ≡ direction from to request → Directed from to request f g
-directed from to request f g h =
-    let e = go (formatNumbered from) (formatNumbered to) (leb request 8) h in
-    record { source = e .0; target = e .1; mode = leb-true _ _ (e .2) }
-  where
-    go : (x y : Outcome Format) (b : Bool) → both f g ≡ chain x y b both → (x ≡ ok f) × (y ≡ ok g) × (b ≡ true)
-    go (refused n) y b e = not-done n 0 0 _ (sym e)
-    go (ok f′) (refused n) b e = not-done n 0 0 _ (sym e)
-    go (ok f′) (ok g′) false e = not-done 11 0 0 _ (sym e)
-    go (ok f′) (ok g′) true e =
-        let d : _≡_ {A = Format × Format} (f, g) (f′, g′) = cc in
-        (sym (ap (λ (y : Format × Format). ok (y .0)) d), sym (ap (λ (y : Format × Format). ok (y .1)) d), refl)
-
 module _ (from to request : ℕ) (s : List ℕ) where
-  pub length-refused : refusedAt 11 0 0 ≡ direction from to request → refusedAt 11 0 0 ≡ lengthCall from to request s
+  pub no-from : formatNumbered from ≡ refused 11 → lengthCall from to request s ≡ refusedAt 11 0 0
   unfolding lengthCall
-  length-refused h = sym (judged-refused from to request _ h)
+  no-from = judged-from from to request _
 
-  pub length-passes : (f g : Format) → Directed from to request f g → lengthCall from to request s ≡ countedAt (conversion f g request s)
+  pub no-to : (f : Format) → formatNumbered from ≡ ok f → formatNumbered to ≡ refused 11 → lengthCall from to request s ≡ refusedAt 11 0 0
   unfolding lengthCall
-  length-passes f g p = judged-passes from to request _ f g (p .source) (p .target) (p .mode)
+  no-to = judged-to from to request _
+
+  pub no-request : (f g : Format) → formatNumbered from ≡ ok f → formatNumbered to ≡ ok g → 8 < request → lengthCall from to request s ≡ refusedAt 11 0 0
+  unfolding lengthCall
+  no-request = judged-request from to request _
+
+  pub length-passes : (f g : Format) → formatNumbered from ≡ ok f → formatNumbered to ≡ ok g → request ≤ 8
+      → lengthCall from to request s ≡ countedAt (conversion f g request s)
+  unfolding lengthCall
+  length-passes = judged-passes from to request _
 
 -- ---- what is judged before the room
 
@@ -177,16 +143,25 @@ refused-is (done y) n k at h = not-refused n k at _ (sym h)
 pub into-refused : (o : Placed (ℕ × List ℕ)) (d : List ℕ) (a : Counts) (n k at : ℕ) → o ≡ refusedAt n k at → countsOf a ≡ refusedAt n k at → IntoBuffer o d d a
 into-refused o d a n k at e h = record { answer = h ∙ ap countedAt (sym e); buffer = ap (λ o. bufferAfter o d) (sym e) }
 
-pub into-out-of-range : (from to request : ℕ) (s d : List ℕ) (a : Counts) → countsOf a ≡ refusedAt 11 0 0 → refusedAt 11 0 0 ≡ direction from to request
-    → IntoBuffer (convertCall from to request s (length d)) d d a
-unfolding convertCall
-into-out-of-range from to request s d a h e = into-refused _ d a 11 0 0 (judged-refused from to request _ e) h
+-- refused by 11
+module _ (from to request : ℕ) (s d : List ℕ) (a : Counts) (h : countsOf a ≡ refusedAt 11 0 0) where
+  pub into-from : formatNumbered from ≡ refused 11 → IntoBuffer (convertCall from to request s (length d)) d d a
+  unfolding convertCall
+  into-from e = into-refused _ d a 11 0 0 (judged-from from to request _ e) h
 
-module _ (from to request : ℕ) (s : List ℕ) (d : List ℕ) (f g : Format) (p : Directed from to request f g) where
+  pub into-to : (f : Format) → formatNumbered from ≡ ok f → formatNumbered to ≡ refused 11 → IntoBuffer (convertCall from to request s (length d)) d d a
+  unfolding convertCall
+  into-to f e i = into-refused _ d a 11 0 0 (judged-to from to request _ f e i) h
+
+  pub into-request : (f g : Format) → formatNumbered from ≡ ok f → formatNumbered to ≡ ok g → 8 < request → IntoBuffer (convertCall from to request s (length d)) d d a
+  unfolding convertCall
+  into-request f g e i l = into-refused _ d a 11 0 0 (judged-request from to request _ f g e i l) h
+
+module _ (from to request : ℕ) (s : List ℕ) (d : List ℕ) (f g : Format) (ef : formatNumbered from ≡ ok f) (eg : formatNumbered to ≡ ok g) (er : request ≤ 8) where
   call-is : convertCall from to request s (length d)
       ≡ andThenAt (conversion f g request s) (λ y. unlessAt 10 (leb (length (y .1)) (length d)) (done y))
   unfolding convertCall
-  call-is = judged-passes from to request _ f g (p .source) (p .target) (p .mode)
+  call-is = judged-passes from to request _ f g ef eg er
 
   pub into-refused-reading : (a : Counts) (n k at : ℕ) → countsOf a ≡ refusedAt n k at → countsOf a ≡ countedAt (conversion f g request s)
       → IntoBuffer (convertCall from to request s (length d)) d d a
@@ -194,24 +169,24 @@ module _ (from to request : ℕ) (s : List ℕ) (d : List ℕ) (f g : Format) (p
       into-refused (convertCall from to request s (length d)) d a n k at
       (call-is ∙ ap (λ o. andThenAt o (λ y. unlessAt 10 (leb (length (y .1)) (length d)) (done y))) (refused-is (conversion f g request s) n k at (sym h ∙ e))) h
 
-  module _ (k need : ℕ) (q : Planned f g request s k need) where
-    room-judged : (b : Bool) → leb (length (converted f g request (q .xs))) (length d) ≡ b
-        → convertCall from to request s (length d) ≡ unlessAt 10 b (done (length (q .xs), converted f g request (q .xs)))
+  module _ (k need : ℕ) (p : Planned f g request s k need) where
+    room-judged : (b : Bool) → leb (length (converted f g request (p .xs))) (length d) ≡ b
+        → convertCall from to request s (length d) ≡ unlessAt 10 b (done (length (p .xs), converted f g request (p .xs)))
     room-judged b e =
-        call-is ∙ ap (λ o. andThenAt o (λ y. unlessAt 10 (leb (length (y .1)) (length d)) (done y))) (q .written)
-        ∙ ap (λ t. unlessAt 10 t (done (length (q .xs), converted f g request (q .xs)))) e
+        call-is ∙ ap (λ o. andThenAt o (λ y. unlessAt 10 (leb (length (y .1)) (length d)) (done y))) (p .written)
+        ∙ ap (λ t. unlessAt 10 t (done (length (p .xs), converted f g request (p .xs)))) e
 
     pub into-short : (a : Counts) → length d < need → countsOf a ≡ refusedAt 10 0 0 → IntoBuffer (convertCall from to request s (length d)) d d a
     into-short a l h =
         into-refused (convertCall from to request s (length d)) d a 10 0 0
-        (room-judged false (lt-leb (length (converted f g request (q .xs))) (length d) (omega (arith, q .size)))) h
+        (room-judged false (lt-leb (length (converted f g request (p .xs))) (length d) (omega (arith, p .size)))) h
 
-    pub into-done : (d′ : List ℕ) (a : Counts) → need ≤ length d → countsOf a ≡ done (k, need) → d′ ≡ overwritten (converted f g request (q .xs)) d
+    pub into-done : (d′ : List ℕ) (a : Counts) → need ≤ length d → countsOf a ≡ done (k, need) → d′ ≡ overwritten (converted f g request (p .xs)) d
         → IntoBuffer (convertCall from to request s (length d)) d d′ a
     into-done d′ a l h e =
-        let o = room-judged true (le-leb (length (converted f g request (q .xs))) (length d) (omega (arith, q .size))) in
+        let o = room-judged true (le-leb (length (converted f g request (p .xs))) (length d) (omega (arith, p .size))) in
         record {
-          answer = h ∙ ap₂ (λ i j. done (i, j)) (q .frames) (q .size) ∙ ap countedAt (sym o);
+          answer = h ∙ ap₂ (λ i j. done (i, j)) (p .frames) (p .size) ∙ ap countedAt (sym o);
           buffer = e ∙ ap (λ o. bufferAfter o d) (sym o);
         }
 
@@ -229,13 +204,13 @@ number-is (suc (suc zero)) f h = ap formatNumber (let e : if2 ≡ f = cc in e)
 number-is (suc (suc (suc zero))) f h = ap formatNumber (let e : storage ≡ f = cc in e)
 number-is (suc (suc (suc (suc n)))) f h = never 11 f h
 
-pub same-numbers : (from to request : ℕ) (f g : Format) → Directed from to request f g → Same (eqb from to) f g
-same-numbers from to request f g p = record {
+pub same-numbers : (from to : ℕ) (f g : Format) → formatNumbered from ≡ ok f → formatNumbered to ≡ ok g → Same (eqb from to) f g
+same-numbers from to f g ef eg = record {
   equal = λ e.
       let d : from ≡ to = eqb-true _ _ e in
-      let q : ok f ≡ ok g = sym (p .source) ∙ ap formatNumbered d ∙ p .target in cc;
+      let q : ok f ≡ ok g = sym ef ∙ ap formatNumbered d ∙ eg in cc;
   unequal = λ e q.
-      let d : from ≡ to = number-is from f (p .source) ∙ ap formatNumber q ∙ sym (number-is to g (p .target)) in
+      let d : from ≡ to = number-is from f ef ∙ ap formatNumber q ∙ sym (number-is to g eg) in
       let t : true ≡ false = sym (eq-eqb from to d) ∙ e in
       absurd (let z : _≡_ {A = ℕ} 0 1 = cc in omega arith);
 }

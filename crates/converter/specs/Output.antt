@@ -6,19 +6,11 @@ use mathlib.Core.List.{List}
 use Prim.Native.Nat.{ℕ, _≤_}
 use lib.ListN.{length}
 use Rattle.definitions.specs.Frames.{Format, Frame}
-use Rattle.recordings.specs.Placed.{Placed, refusedAt, done}
+use Rattle.recordings.specs.Placed.{Placed, done}
 use Rattle.recordings.specs.Recordings.{limit, readRecording}
 use Rattle.recordings.specs.Conversion.{converted, countedAt, bufferAfter}
 use Rattle.recording_reader.specs.Answers.{countsOf}
 use Rattle.recording_reader.specs.declared.Counts.{Counts}
-use Rattle.frame.specs.Answers.{formatOf}
-use Rattle.converter.specs.declared.Direction.{Direction}
-use Rattle.converter.specs.declared.Direction.the-variants as direction
-
--- the formats of a conversion, or refusal 11
-abbrev pub directionOf : Direction → Placed (Format × Format)
-directionOf (direction.Is f g) = done (formatOf f, formatOf g)
-directionOf direction.OutOfRange = refusedAt 11 0 0
 
 -- the output buffer is d₀ before the call and d after it
 pub record IntoBuffer (o : Placed (ℕ × List ℕ)) (d₀ d : List ℕ) (a : Counts) : Type 0 where

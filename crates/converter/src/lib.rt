@@ -19,18 +19,11 @@ ghost use Prim.Native.Nat.{ℕ, _≤_};
 ghost use lib.ListN.{length};
 ghost use Rattle.definitions.specs.Frames.{Frame};
 ghost use Rattle.definitions.specs.Reading.{overwritten};
-ghost use Rattle.recordings.specs.Placed.{done};
 ghost use Rattle.recordings.specs.Recordings.{fileHeader};
-ghost use Rattle.recordings.specs.Conversion.{converted, conversion, judged, countedAt, convertCall, lengthCall};
+ghost use Rattle.recordings.specs.Conversion.{converted, conversion, countedAt, convertCall, lengthCall};
 ghost use Rattle.frame.specs.Answers.{formatOf};
 ghost use Rattle.recording_reader.specs.Answers.{countsOf};
-ghost use Rattle.converter.specs.Output.{directionOf, IntoBuffer, Convertible, Same};
-
-// The formats of a conversion, where they and its request are in range.
-enum Direction {
-    Is(Format, Format),
-    OutOfRange,
-}
+ghost use Rattle.converter.specs.Output.{IntoBuffer, Convertible, Same};
 
 // Copies `s` to the front of `out`.
 fn copy_all(s: &[u8], out: &mut [u8])
@@ -103,29 +96,19 @@ fn measure(f: Format, g: Format, s: &[u8]) -> Counts
     a
 }
 
-// The formats of a conversion by its numbers: refusal 11's test.
-fn direction_numbered(from: u64, to: u64, request: u64) -> Direction
-    ensures { λ d. ⌜ directionOf d ≡ judged from to request (λ f g. done (f, g)) ⌝ }
-{
-    let FormatFound::Is(f) = format_numbered(from) else {
-        return Direction::OutOfRange;
-    };
-    let FormatFound::Is(g) = format_numbered(to) else {
-        return Direction::OutOfRange;
-    };
-    if HIGHEST_MODE < request {
-        return Direction::OutOfRange;
-    }
-    Direction::Is(f, g)
-}
-
 // Answers how many octets a conversion would write. An entry.
 pub fn convert_length(from: u64, to: u64, request: u64, s: &[u8]) -> Counts
     ensures { λ a. ⌜ countsOf a ≡ lengthCall from to request (now (s .entry)) ⌝ }
 {
-    let Direction::Is(f, g) = direction_numbered(from, to, request) else {
+    let FormatFound::Is(f) = format_numbered(from) else {
         return Counts::Refused(Refusal::ArgumentRange, 0, 0);
     };
+    let FormatFound::Is(g) = format_numbered(to) else {
+        return Counts::Refused(Refusal::ArgumentRange, 0, 0);
+    };
+    if HIGHEST_MODE < request {
+        return Counts::Refused(Refusal::ArgumentRange, 0, 0);
+    }
     measure(f, g, s)
 }
 
@@ -133,9 +116,15 @@ pub fn convert_length(from: u64, to: u64, request: u64, s: &[u8]) -> Counts
 pub fn convert(from: u64, to: u64, request: u64, s: &[u8], out: &mut [u8]) -> Counts
     ensures { λ a. ⌜ IntoBuffer (convertCall from to request (now (s .entry)) (length (now (out .entry)))) (now (out .entry)) (now (out .exit)) a ⌝ }
 {
-    let Direction::Is(f, g) = direction_numbered(from, to, request) else {
+    let FormatFound::Is(f) = format_numbered(from) else {
         return Counts::Refused(Refusal::ArgumentRange, 0, 0);
     };
+    let FormatFound::Is(g) = format_numbered(to) else {
+        return Counts::Refused(Refusal::ArgumentRange, 0, 0);
+    };
+    if HIGHEST_MODE < request {
+        return Counts::Refused(Refusal::ArgumentRange, 0, 0);
+    }
     let a = measure(f, g, s);
     let Counts::Done(_, need) = a else {
         return a;
