@@ -62,6 +62,10 @@ bufferCore d t = take (coreBits t) (bits d)
 abbrev pub frameOf : ℕ → ℕ → ℕ → ℕ → List ℕ → Frame
 frameOf t q i r c = frameBy t q i r (bufferCore c t)
 
+-- the filling bits of the packed core of a frame of type t are 0
+abbrev pub coreFillClear : ℕ → List ℕ → Bool
+coreFillClear t c = clear (8 * length c - coreBits t) (drop (coreBits t) (bits c))
+
 -- the frame that a building call would write into room octets, with how many it takes. 11 a type above 15, a quality above 1 or, of a
 -- type that is not reserved, another length of the core than its octets; 2, 5 and 6 as in reading; 10 too little room
 unfoldable pub buildCheck : Format → ℕ → ℕ → ℕ → ℕ → List ℕ → ℕ → Outcome (Frame × ℕ)
@@ -69,7 +73,7 @@ buildCheck f t q i r c room =
     let x : Frame = frameOf t q i r c in
     unless 11 (leb t 15 && (leb q 1 && (not (known t) || eqb (length c) (coreOctets t))))
     (unless 2 (known t)
-    (unless 5 (clear (8 * length c - coreBits t) (drop (coreBits t) (bits c)))
+    (unless 5 (coreFillClear t c)
     (unless 6 (fieldsGood f x)
     (unless 10 (leb (octets f t) room)
     (ok (x, octets f t))))))

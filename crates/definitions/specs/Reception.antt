@@ -1,9 +1,10 @@
 -- The reception class (document 01, "Reception class and report"; TS 26.201 table 1c).
 use mathlib.Core.Bool.{Bool, true, false, _&&_, cond}
 use Prim.Native.Nat.{ℕ}
+use lib.ListN.{getD}
 use lib.Dec.{eqb, leb}
 use Rattle.definitions.specs.Outcome.{Outcome, ok, unless}
-use Rattle.definitions.specs.Frames.{known}
+use Rattle.definitions.specs.Frames.{Frame, known}
 
 pub data SpeechClass : Type 0 where
   speech-good speech-bad : SpeechClass
@@ -31,6 +32,10 @@ sidClass true true = sid-update
 abbrev pub classOf : ℕ → Bool → Bool → Reception
 classOf t good sti =
     cond (leb t 8) (speech (speechClass good)) (cond (eqb t 9) (sid (sidClass good sti)) (cond (eqb t 14) speech-lost no-data))
+
+-- of a frame; STI is d(35)
+abbrev pub frameClass : Frame → Reception
+frameClass x = classOf (x .type) (eqb (x .quality) 1) (getD (x .core) 35 false)
 
 -- a call by numbers
 unfoldable pub receptionClass : ℕ → ℕ → ℕ → Outcome Reception

@@ -3,3 +3,5 @@ pub mod Recordings
 pub mod Conversion
 pub mod Claims
 pub mod Demand3
+pub mod Viewer
+pub mod Report

@@ -43,9 +43,13 @@ scan f (suc skip) k at (o ∷ s) = scan f skip k (suc at) s
 abbrev pub scanFrames : Format → List ℕ → Placed (List Frame)
 scanFrames f s = scan f 0 0 (length (fileHeader f)) (drop (length (fileHeader f)) s)
 
--- the frames of a recording: 9 too long; 8 another file header; then each frame by 2 to 7
+-- in front of the frames: 9 too long; 8 another file header
+abbrev pub judgedFront : {A : Type 0} → Format → List ℕ → Placed A → Placed A
+judgedFront f s next = unlessAt 9 (leb (length s) limit) (unlessAt 8 (headed f s) next)
+
+-- the frames of a recording: 9, 8, then each frame by 2 to 7
 unfoldable pub readRecording : Format → List ℕ → Placed (List Frame)
-readRecording f s = unlessAt 9 (leb (length s) limit) (unlessAt 8 (headed f s) (scanFrames f s))
+readRecording f s = judgedFront f s (scanFrames f s)
 
 -- "Its octets, after the header of a stored one, are then whole frames end to end"
 abbrev pub layouts : Format → List Frame → List ℕ
