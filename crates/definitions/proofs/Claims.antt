@@ -88,7 +88,7 @@ layouts-differ = record {
 -- ---- the builder
 
 -- a packed core whose filling is 0 is its bits, packed
-packed-core : (k : ℕ) (c : List ℕ) → Octets c → length c ≡ octetsFor k → clear (8 * length c - k) (drop k (bits c)) ≡ true
+pub packed-core : (k : ℕ) (c : List ℕ) → Octets c → length c ≡ octetsFor k → clear (8 * length c - k) (drop k (bits c)) ≡ true
     → (length (take k (bits c)) ≡ k) × (c ≡ pack (take k (bits c)))
 packed-core k c o l z =
     let n : length (take k (bits c)) ≡ k = length-take-le k (bits c) (omega (arith, length-bits c)) in
@@ -102,7 +102,7 @@ packed-core k c o l z =
     )
 
 -- the bits of a packed core, and its filling
-bits-core : (core : List Bool) → (take (length core) (bits (pack core)) ≡ core)
+pub bits-core : (core : List Bool) → (take (length core) (bits (pack core)) ≡ core)
     × (clear (8 * length (pack core) - length core) (drop (length core) (bits (pack core))) ≡ true)
 bits-core core =
     let r : List Bool = replicate (8 * octetsFor (length core) - length core) false in
