@@ -14,7 +14,7 @@ use Rattle.bits.proofs.BitLaws.{num-clear, num-zero, length-bits, bits-pack, le
 use Rattle.bits.proofs.Tests.{and-left, and-right, given}
 use Rattle.definitions.specs.Outcome.{Outcome, refused, ok, unless, andThen}
 use Rattle.definitions.specs.Frames.{Format, if2, Frame, known, coreBits, octets, coreOctets, header, layout, fieldsGood}
-use Rattle.definitions.specs.Reading.{readWith, readFrame, frameOf, buildCheck, buildFrame}
+use Rattle.definitions.specs.Reading.{readWith, readFrame, coreFillClear, frameOf, buildCheck, buildFrame}
 use Rattle.definitions.specs.Claims.{Valid, Begins, ReadsFrames, ReadsOneFrame, WrongReaders, LayoutsDiffer, BuildsFrames}
 use Rattle.definitions.proofs.Tables.{known-below, sized}
 use Rattle.definitions.proofs.Frames.{frame-path, length-layout, never, read-begins, begins-read}
@@ -127,7 +127,7 @@ pub record Checked (f : Format) (t q i r : ℕ) (c : List ℕ) (room : ℕ) (y :
   pub type-known : known t ≡ true
   pub quality-bit : q ≤ 1
   pub core-size : length c ≡ coreOctets t
-  pub fill : clear (8 * length c - coreBits t) (drop (coreBits t) (bits c)) ≡ true
+  pub fill : coreFillClear t c ≡ true
   pub fields : fieldsGood f (frameOf t q i r c) ≡ true
   pub space : octets f t ≤ room
   pub shown : _≡_ {A = Frame × ℕ} (frameOf t q i r c, octets f t) y
@@ -137,7 +137,7 @@ unfolding buildCheck
 check-known f t q i r c room y h =
     let x = frameOf t q i r c in
     let p =
-    checked (leb t 15 && (leb q 1 && (not (known t) || eqb (length c) (coreOctets t)))) (known t) (clear (8 * length c - coreBits t) (drop (coreBits t) (bits c)))
+    checked (leb t 15 && (leb q 1 && (not (known t) || eqb (length c) (coreOctets t)))) (known t) (coreFillClear t c)
     (fieldsGood f x) (leb (octets f t) room) (x, octets f t) y h in
     let q₁ = and-right (leb t 15) _ (p .0) in
     record {
@@ -178,7 +178,7 @@ build-complete f x room v h =
     let t : leb (x .type) 15 ≡ true = le-leb (x .type) 15 (omega (arith, known-below (x .type) k)) in
     let q : leb (x .quality) 1 ≡ true = le-leb (x .quality) 1 (v .quality-bit) in
     let l : eqb (length (pack (x .core))) (coreOctets (x .type)) ≡ true = eq-eqb _ _ (length-pack (x .core) ∙ ap octetsFor (v .core-length)) in
-    let z : clear (8 * length (pack (x .core)) - coreBits (x .type)) (drop (coreBits (x .type)) (bits (pack (x .core)))) ≡ true =
+    let z : coreFillClear (x .type) (pack (x .core)) ≡ true =
     ap (λ k. clear (8 * length (pack (x .core)) - k) (drop k (bits (pack (x .core))))) (sym (v .core-length)) ∙ bits-core (x .core) .1 in
     let r : leb (octets f (x .type)) room ≡ true = le-leb (octets f (x .type)) room (omega (arith, length-layout f x v)) in
     rw (frame-again f x v, t, q, k, l, z, v .fields-good, r)

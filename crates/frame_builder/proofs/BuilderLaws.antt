@@ -16,7 +16,7 @@ use Rattle.parity.specs.Crc.{crc}
 use Rattle.parity.proofs.Guarded.{octet-bits}
 use Rattle.definitions.specs.Outcome.{refused, ok, andThen}
 use Rattle.definitions.specs.Frames.{Format, if1, if2, storage, Frame, known, coreBits, classA, octets, coreOctets, carriesModes, modesAndCrc, header, layout, headerBits, spareBefore, fieldsGood}
-use Rattle.definitions.specs.Reading.{bufferCore, frameOf, buildCheck, buildFrame, counted, outputAfter}
+use Rattle.definitions.specs.Reading.{bufferCore, coreFillClear, frameOf, buildCheck, buildFrame, counted, outputAfter}
 use Rattle.definitions.proofs.Tables.{sized, class-a-within, core-most}
 use Rattle.definitions.proofs.Frames.{size-layout, fields-good}
 use Rattle.definitions.proofs.Claims.{check-known}
@@ -207,10 +207,6 @@ pub record Measured (t q : ℕ) (c : List ℕ) : Type 0 where
   pub type-known : known t ≡ true
   pub core-size : length c ≡ coreOctets t
 
--- the filling of a packed core
-abbrev pub coreFill : ℕ → List ℕ → Bool
-coreFill t c = clear (8 * length c - coreBits t) (drop (coreBits t) (bits c))
-
 module _ (f : Format) (t q i r : ℕ) (c : List ℕ) (room : ℕ) where
   pub type-high : 15 < t → refused 11 ≡ buildCheck f t q i r c room
   unfolding buildCheck
@@ -229,12 +225,12 @@ module _ (f : Format) (t q i r : ℕ) (c : List ℕ) (room : ℕ) where
   core-length-wrong ht hq kt w = rw (le-leb t 15 ht, le-leb q 1 hq, kt, ne-eqb (length c) (coreOctets t) w)
 
   module _ (m : Measured t q c) where
-    pub fill-wrong : coreFill t c ≡ false → refused 5 ≡ buildCheck f t q i r c room
+    pub fill-wrong : coreFillClear t c ≡ false → refused 5 ≡ buildCheck f t q i r c room
     unfolding buildCheck
     fill-wrong w =
         rw (le-leb t 15 (m .type-most), le-leb q 1 (m .quality-most), m .type-known, eq-eqb (length c) (coreOctets t) (m .core-size), w)
 
-    module _ (fill : coreFill t c ≡ true) where
+    module _ (fill : coreFillClear t c ≡ true) where
       pub fields-wrong : fieldsGood f (frameOf t q i r c) ≡ false → refused 6 ≡ buildCheck f t q i r c room
       unfolding buildCheck
       fields-wrong w =

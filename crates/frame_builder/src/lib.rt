@@ -76,8 +76,8 @@ fn write_frame(f: Format, h: FrameHeader, src: &[u8], from: usize, out: &mut [u8
     }
 }
 
-// The filling bits of a packed core are 0.
-fn core_fill_clear(core: &[u8], k: usize) -> bool
+// The filling bits of a packed core are 0. `pub` for the crate of codec order.
+pub fn core_fill_clear(core: &[u8], k: usize) -> bool
     requires { ⌜ (length (now core) ≡ octetsFor k) × (k < 65536) ⌝ }
     ensures { λ r. ⌜ r ≡ clear (8 * length (now (core .entry)) - k) (drop k (bits (now (core .entry)))) ⌝ }
 {

@@ -4,6 +4,7 @@ ghost use mathlib.Core.Path.{_≡_};
 ghost use lib.ListN.{length};
 ghost use Rattle.definitions.specs.Frames.{if1, if2, storage};
 ghost use Rattle.definitions.specs.Reading.{readCall, buildFrame};
+ghost use Rattle.definitions.specs.Order.{toCoreCall, toRowCall};
 ghost use Rattle.definitions.specs.Reception.{receptionClass};
 ghost use Rattle.recordings.specs.Recordings.{validateCall};
 ghost use Rattle.recordings.specs.Conversion.{convertCall, lengthCall};
@@ -130,6 +131,20 @@ pub extern "C" fn amrwb_build_stored(
     ensures { λ r. ⌜ FlatOutput (buildFrame storage «frame_type» quality 0 0 (now (core .entry)) (length (now (out .entry)))) (now (out .entry)) (now (out .exit)) r ⌝ }
 {
     built_answer(frame_builder::build_storage(frame_type, quality, core, out))
+}
+
+#[no_mangle]
+pub extern "C" fn amrwb_order_to_core(mode: u64, row: &[u8], core: &mut [u8]) -> Answer
+    ensures { λ r. ⌜ FlatOutput (toCoreCall mode (now (row .entry)) (length (now (core .entry)))) (now (core .entry)) (now (core .exit)) r ⌝ }
+{
+    built_answer(codec_order::order_to_core(mode, row, core))
+}
+
+#[no_mangle]
+pub extern "C" fn amrwb_order_to_row(mode: u64, core: &[u8], row: &mut [u8]) -> Answer
+    ensures { λ r. ⌜ FlatOutput (toRowCall mode (now (core .entry)) (length (now (row .entry)))) (now (row .entry)) (now (row .exit)) r ⌝ }
+{
+    built_answer(codec_order::order_to_row(mode, core, row))
 }
 
 fn speech_number(s: SpeechClass) -> u64

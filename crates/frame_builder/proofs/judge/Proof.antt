@@ -8,10 +8,10 @@ use lib.ListN.{length, drop}
 use borrow.Author.Tests.{not-true, not-false}
 use Rattle.bits.specs.Bits.{bits, clear, octetsFor}
 use Rattle.definitions.specs.Frames.{known, fieldsGood}
-use Rattle.definitions.specs.Reading.{frameOf}
+use Rattle.definitions.specs.Reading.{coreFillClear, frameOf}
 use Rattle.frame.specs.Answers.{formatOf}
 use Rattle.frame.proofs.TableLaws.{octets-not-reserved}
-use Rattle.frame_builder.proofs.BuilderLaws.{Measured, coreFill, type-high, quality-high, type-reserved, core-length-wrong, fill-wrong, fields-wrong, output-short, builds, modes-fit}
+use Rattle.frame_builder.proofs.BuilderLaws.{Measured, type-high, quality-high, type-reserved, core-length-wrong, fill-wrong, fields-wrong, output-short, builds, modes-fit}
 use Rattle.frame_builder.proofs.judge.Statement.{statement}
 use Rattle.frame_builder.proofs.judge.Tie as tie
 
@@ -29,7 +29,7 @@ measured-there c = record {
   core-size = c .if4 .left ∙ ap octetsFor (c .before .core-bits .ensures .0);
 }
 
-fill-there : (c : tie.After-core-fill-clear) → let a = c .before .before .before .before .before .before .before .before .args in c .core-fill-clear .result ≡ coreFill (a .t) (a .core .now)
+fill-there : (c : tie.After-core-fill-clear) → let a = c .before .before .before .before .before .before .before .before .args in c .core-fill-clear .result ≡ coreFillClear (a .t) (a .core .now)
 fill-there c =
     let s = c .before .before .before .before .before .before .before .before .args .core .now in
     c .core-fill-clear .ensures ∙ ap (λ k. clear (8 * length s - k) (drop k (bits s))) (c .before .before .core-bits .ensures .0)

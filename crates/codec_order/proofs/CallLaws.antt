@@ -1,0 +1,196 @@
+-- The ordering calls: which refusal comes where, and what a call that is not refused has found. Assumes nothing.
+use mathlib.Core.Path.{_≡_, refl, sym, ap, _∙_, subst}
+use mathlib.Core.Bool.{Bool, true, false, _&&_}
+use mathlib.Core.List.{List}
+use Prim.Native.Nat.{ℕ, zero, suc, _*_, _≤_, _<_}
+use native.Mathlib.Omega.{arith}
+use lib.Dec.{eqb, leb}
+use lib.ListN.{length, take, length-map}
+use borrow.Author.Tests.{leb-true, le-leb, lt-leb, eqb-true, eq-eqb, ne-eqb}
+use Rattle.bits.specs.Bits.{one-if, bits, pack, octetsFor}
+use Rattle.bits.proofs.BitLaws.{length-pack}
+use Rattle.bits.proofs.Tests.{and-left, and-right}
+use Rattle.definitions.specs.Outcome.{Outcome, refused, ok, unless}
+use Rattle.definitions.specs.Frames.{coreBits, coreOctets}
+use Rattle.definitions.specs.Reading.{bufferCore, coreFillClear, counted, overwritten, outputAfter}
+use Rattle.definitions.specs.Order.{orderTable, zeroOrOne, rowBits, rowOctets, ordered, unordered, toCoreCall, toRowCall}
+use Rattle.definitions.specs.Claims.{Permutes}
+use Rattle.definitions.proofs.Frames.{never}
+use Rattle.definitions.proofs.Order.{tables-permute, length-ordered, length-unordered}
+use Rattle.frame.specs.Answers.{numberOf, builtOf}
+use Rattle.frame.specs.declared.Refusal.{Refusal}
+use Rattle.frame.specs.declared.Built.{Built}
+use Rattle.frame.specs.declared.Built.the-variants.{Octets, Refused}
+use Rattle.frame_builder.specs.Output.{IntoOutput}
+
+-- ---- the tables
+
+pub permutes-as : (m k : ℕ) (table : List ℕ) → m ≤ 4 → k ≡ coreBits m → orderTable m ≡ table → Permutes k table
+permutes-as m k table h e t = subst (λ k. Permutes k table) (sym e) (subst (Permutes (coreBits m)) t (tables-permute .each m h))
+
+core-size : (m : ℕ) (row : List ℕ) → m ≤ 4 → length (pack (ordered (orderTable m) (rowBits row))) ≡ coreOctets m
+core-size m row h =
+    length-pack (ordered (orderTable m) (rowBits row)) ∙ ap octetsFor (length-ordered (orderTable m) (rowBits row) ∙ tables-permute .each m h .whole)
+
+row-size : (m : ℕ) (core : List ℕ) → m ≤ 4 → length (rowOctets (unordered (orderTable m) (bufferCore core m))) ≡ coreBits m
+row-size m core h =
+    length-map (unordered (orderTable m) (bufferCore core m)) one-if ∙ length-unordered (orderTable m) (bufferCore core m) ∙ tables-permute .each m h .whole
+
+-- ---- from row to core
+
+module _ (m : ℕ) (row : List ℕ) (room : ℕ) where
+  pub mode-high : 8 < m → refused 11 ≡ counted (toCoreCall m row room)
+  unfolding toCoreCall
+  mode-high h = rw (lt-leb m 8 h)
+
+  pub row-length : m ≤ 8 → (length row ≡ coreBits m → ⊥) → refused 11 ≡ counted (toCoreCall m row room)
+  unfolding toCoreCall
+  row-length h l = rw (le-leb m 8 h, ne-eqb _ _ l)
+
+  pub row-value : m ≤ 8 → length row ≡ coreBits m → zeroOrOne row ≡ false → refused 11 ≡ counted (toCoreCall m row room)
+  unfolding toCoreCall
+  row-value h l v = rw (le-leb m 8 h, eq-eqb _ _ l, v)
+
+  module _ (h : m ≤ 8) (l : length row ≡ coreBits m) (v : zeroOrOne row ≡ true) where
+    pub row-unordered : 4 < m → refused 12 ≡ counted (toCoreCall m row room)
+    unfolding toCoreCall
+    row-unordered n = rw (le-leb m 8 h, eq-eqb _ _ l, v, lt-leb m 4 n)
+
+    pub core-short : m ≤ 4 → room < coreOctets m → refused 10 ≡ counted (toCoreCall m row room)
+    unfolding toCoreCall
+    core-short n r = rw (le-leb m 8 h, eq-eqb _ _ l, v, le-leb m 4 n, lt-leb _ _ r)
+
+    pub core-fits : m ≤ 4 → coreOctets m ≤ room → ok (coreOctets m) ≡ counted (toCoreCall m row room)
+    unfolding toCoreCall
+    core-fits n r = rw (le-leb m 8 h, eq-eqb _ _ l, v, le-leb m 4 n, le-leb _ _ r, core-size m row n)
+
+  pub record RowTaken (w : List ℕ) : Type 0 where
+    pub ordered-mode : m ≤ 4
+    pub size : length row ≡ coreBits m
+    pub values : zeroOrOne row ≡ true
+    pub space : coreOctets m ≤ room
+    pub written : pack (ordered (orderTable m) (rowBits row)) ≡ w
+
+  pub row-taken : (w : List ℕ) → toCoreCall m row room ≡ ok w → RowTaken w
+  unfolding toCoreCall
+  row-taken w e = go (leb m 8 && (eqb (length row) (coreBits m) && zeroOrOne row)) (leb m 4) (leb (coreOctets m) room) refl refl refl e
+    where
+      go : (b₁ b₂ b₃ : Bool) → (leb m 8 && (eqb (length row) (coreBits m) && zeroOrOne row)) ≡ b₁ → leb m 4 ≡ b₂ → leb (coreOctets m) room ≡ b₃
+          → unless 11 b₁ (unless 12 b₂ (unless 10 b₃ (ok (pack (ordered (orderTable m) (rowBits row)))))) ≡ ok w → RowTaken w
+      go true true true e₁ e₂ e₃ e =
+          let r = and-right (leb m 8) _ e₁ in
+          record {
+            ordered-mode = leb-true _ _ e₂;
+            size = eqb-true _ _ (and-left _ _ r);
+            values = and-right (eqb (length row) (coreBits m)) _ r;
+            space = leb-true _ _ e₃;
+            written = cc;
+          }
+      go false b₂ b₃ e₁ e₂ e₃ e = never 11 w e
+      go true false b₃ e₁ e₂ e₃ e = never 12 w e
+      go true true false e₁ e₂ e₃ e = never 10 w e
+
+-- ---- from core to row
+
+module _ (m : ℕ) (core : List ℕ) (room : ℕ) where
+  pub core-mode-high : 8 < m → refused 11 ≡ counted (toRowCall m core room)
+  unfolding toRowCall
+  core-mode-high h = rw (lt-leb m 8 h)
+
+  pub core-length : m ≤ 8 → (length core ≡ coreOctets m → ⊥) → refused 11 ≡ counted (toRowCall m core room)
+  unfolding toRowCall
+  core-length h l = rw (le-leb m 8 h, ne-eqb _ _ l)
+
+  pub core-filling : m ≤ 8 → length core ≡ coreOctets m → coreFillClear m core ≡ false → refused 5 ≡ counted (toRowCall m core room)
+  unfolding toRowCall
+  core-filling h l v = rw (le-leb m 8 h, eq-eqb _ _ l, v)
+
+  module _ (h : m ≤ 8) (l : length core ≡ coreOctets m) (v : coreFillClear m core ≡ true) where
+    pub core-unordered : 4 < m → refused 12 ≡ counted (toRowCall m core room)
+    unfolding toRowCall
+    core-unordered n = rw (le-leb m 8 h, eq-eqb _ _ l, v, lt-leb m 4 n)
+
+    pub row-short : m ≤ 4 → room < coreBits m → refused 10 ≡ counted (toRowCall m core room)
+    unfolding toRowCall
+    row-short n r = rw (le-leb m 8 h, eq-eqb _ _ l, v, le-leb m 4 n, lt-leb _ _ r)
+
+    pub row-fits : m ≤ 4 → coreBits m ≤ room → ok (coreBits m) ≡ counted (toRowCall m core room)
+    unfolding toRowCall
+    row-fits n r = rw (le-leb m 8 h, eq-eqb _ _ l, v, le-leb m 4 n, le-leb _ _ r, row-size m core n)
+
+  pub record CoreTaken (w : List ℕ) : Type 0 where
+    pub ordered-mode : m ≤ 4
+    pub size : length core ≡ coreOctets m
+    pub space : coreBits m ≤ room
+    pub written : rowOctets (unordered (orderTable m) (bufferCore core m)) ≡ w
+
+  pub core-taken : (w : List ℕ) → toRowCall m core room ≡ ok w → CoreTaken w
+  unfolding toRowCall
+  core-taken w e = go (leb m 8 && eqb (length core) (coreOctets m)) (coreFillClear m core) (leb m 4) (leb (coreBits m) room) refl refl refl e
+    where
+      go : (b₁ b₂ b₃ b₄ : Bool) → (leb m 8 && eqb (length core) (coreOctets m)) ≡ b₁ → leb m 4 ≡ b₃ → leb (coreBits m) room ≡ b₄
+          → unless 11 b₁ (unless 5 b₂ (unless 12 b₃ (unless 10 b₄ (ok (rowOctets (unordered (orderTable m) (bufferCore core m))))))) ≡ ok w → CoreTaken w
+      go true true true true e₁ e₃ e₄ e = record {
+        ordered-mode = leb-true _ _ e₃;
+        size = eqb-true _ _ (and-right (leb m 8) _ e₁);
+        space = leb-true _ _ e₄;
+        written = cc;
+      }
+      go false b₂ b₃ b₄ e₁ e₃ e₄ e = never 11 w e
+      go true false b₃ b₄ e₁ e₃ e₄ e = never 5 w e
+      go true true false b₄ e₁ e₃ e₄ e = never 12 w e
+      go true true true false e₁ e₃ e₄ e = never 10 w e
+
+-- ---- either call: its answer and its buffer, from what was judged
+
+module _ (o : Outcome (List ℕ)) (r : Built) (e : builtOf r ≡ counted o) (d₀ : List ℕ) where
+  -- a call that is not refused writes something
+  pub writes : (m : ℕ) → r ≡ Octets m → (w : List ℕ) × (o ≡ ok w)
+  writes m h = go o (sym (ap builtOf h) ∙ e)
+    where
+      go : (o : Outcome (List ℕ)) → ok m ≡ counted o → (w : List ℕ) × (o ≡ ok w)
+      go (refused n) h = never n m (sym h)
+      go (ok w) h = (w, refl)
+
+  pub refused-leaves : (x : Refusal) → r ≡ Refused x → IntoOutput o d₀ d₀ r
+  refused-leaves x h = record { answer = e; buffer = go o (sym (ap builtOf h) ∙ e) }
+    where
+      go : (o : Outcome (List ℕ)) → refused (numberOf x) ≡ counted o → d₀ ≡ outputAfter o d₀
+      go (refused n) h = refl
+      go (ok w) h = never (numberOf x) (length w) h
+
+  pub written-out : (m : ℕ) (w d : List ℕ) → r ≡ Octets m → o ≡ ok w → d ≡ overwritten w d₀ → IntoOutput o d₀ d (Octets m)
+  written-out m w d h ow ed = record { answer = sym (ap builtOf h) ∙ e; buffer = ed ∙ ap (λ o. outputAfter o d₀) (sym ow) }
+
+-- ---- the table that a mode's call is handed
+
+pub last-mode : (m : ℕ) → m ≤ 4 → (m ≡ 0 → ⊥) → (m ≡ 1 → ⊥) → (m ≡ 2 → ⊥) → (m ≡ 3 → ⊥) → m ≡ 4
+last-mode zero h n₀ n₁ n₂ n₃ = absurd (n₀ refl)
+last-mode (suc zero) h n₀ n₁ n₂ n₃ = absurd (n₁ refl)
+last-mode (suc (suc zero)) h n₀ n₁ n₂ n₃ = absurd (n₂ refl)
+last-mode (suc (suc (suc zero))) h n₀ n₁ n₂ n₃ = absurd (n₃ refl)
+last-mode (suc (suc (suc (suc m)))) h n₀ n₁ n₂ n₃ = omega arith
+
+module _ (m : ℕ) (table : List ℕ) (h : m ≤ 4) (t : orderTable m ≡ table) where
+  pub core-asked : (row core : List ℕ) → length row ≡ coreBits m → zeroOrOne row ≡ true → coreOctets m ≤ length core
+      → Permutes (length row) table × (zeroOrOne row ≡ true) × (octetsFor (length table) ≤ length core)
+  core-asked row core l v r =
+      let p = permutes-as m (coreBits m) table h refl t in
+      (permutes-as m (length row) table h l t, v, subst (λ k. octetsFor k ≤ length core) (sym (p .whole)) r)
+
+  pub row-asked : (core row : List ℕ) → length core ≡ coreOctets m → coreBits m ≤ length row
+      → Permutes (length table) table × (length table ≤ 8 * length core) × (length table ≤ length row)
+  row-asked core row l r =
+      let w = permutes-as m (coreBits m) table h refl t .whole in
+      (permutes-as m (length table) table h w t, omega arith, omega arith)
+
+  pub core-put : (row core₀ core : List ℕ) → core ≡ overwritten (pack (ordered table (rowBits row))) core₀
+      → core ≡ overwritten (pack (ordered (orderTable m) (rowBits row))) core₀
+  core-put row core₀ core e = e ∙ ap (λ t. overwritten (pack (ordered t (rowBits row))) core₀) (sym t)
+
+  pub row-put : (core row₀ row : List ℕ) → row ≡ overwritten (rowOctets (unordered table (take (length table) (bits core)))) row₀
+      → row ≡ overwritten (rowOctets (unordered (orderTable m) (bufferCore core m))) row₀
+  row-put core row₀ row e =
+      e
+      ∙ ap (λ k. overwritten (rowOctets (unordered table (take k (bits core)))) row₀) (permutes-as m (coreBits m) table h refl t .whole)
+      ∙ ap (λ t. overwritten (rowOctets (unordered t (bufferCore core m))) row₀) (sym t)
