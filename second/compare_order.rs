@@ -28,7 +28,7 @@ fn some_row(g: &mut Random, mode: u64) -> Vec<u8> {
     match g.below(16) {
         0 => row.truncate(row.len() - 1),
         1 => row.push(g.below(2) as u8),
-        2 => row.truncate(g.below(row.len() as u64) as usize),
+        2 => row.truncate(g.one_of(&[0, 1, row.len() / 2])),
         3 | 4 => {
             let last = row.len() - 1;
             let any = g.below(row.len() as u64) as usize;
@@ -38,6 +38,15 @@ fn some_row(g: &mut Random, mode: u64) -> Vec<u8> {
         _ => {}
     }
     row
+}
+
+/// A packed core of a mode, or one with another length or with a filling bit 1.
+fn some_core(g: &mut Random, mode: u64) -> Vec<u8> {
+    let mut core = core(g, mode);
+    if g.one_in(40) {
+        core.truncate(g.one_of(&[0, 1, core.len() / 2]));
+    }
+    core
 }
 
 /// One of the two calls, in the library and in the second program, and how often each answer came.
@@ -90,7 +99,7 @@ impl Orders {
             let room = some_room(g, (bits + 7) / 8);
             self.to_core.compare(&self.order, mode, &row, room).0
         } else {
-            let core = core(g, like);
+            let core = some_core(g, like);
             let room = some_room(g, bits);
             self.to_row.compare(&self.order, mode, &core, room).0
         }
