@@ -9,7 +9,7 @@ demo:
 test:
 	@tests/run
 
-# how fast the library converts, beside a plain Rust converter: Markdown tables
+# how fast the library converts and orders bits, beside plain Rust: Markdown tables
 bench:
 	@tests/build bench
 	@target/tools/bench

@@ -1,7 +1,10 @@
-//! Compares the library's conversion with a plain Rust one (baseline.rs, its CRC by bits) on the same recordings, and prints Markdown.
-//!   bench [--runs N] [kind ..]    kinds: mixed, runs, or a speech mode 0 to 8; at least 9 runs
-//!   bench --check                 no times: both convert short recordings of every kind alike
+//! Compares the library's conversion with a plain Rust one (baseline.rs, its CRC by bits) on the same recordings, and its codec order with
+//! a plain Rust one (order.rs) on the same frames, and prints Markdown.
+//!   bench [--runs N] [kind ..]    kinds: mixed, runs, a speech mode 0 to 8, linear, order; at least 9 runs
+//!   bench --check                 no times: both convert short recordings of every kind, and order frames of every mode, alike
 mod baseline;
+mod bench_order;
+mod order;
 
 use baseline::{convert, Bitwise, Format, Table, HEADER, IF1, LIMIT, STORED};
 use std::hint::black_box;
@@ -199,10 +202,22 @@ fn linear_cost(runs: usize) {
             println!("| {} to {} | {one:.2} | {four:.2} | {sixteen:.2} |", name(from), name(to));
         }
     }
+    println!();
+}
+
+/// No times: ends the program where the two differ.
+fn check_all() {
+    for kind in KINDS {
+        for most in [9, 100, 1_000, 100_000, 1_000_000] {
+            check(kind, &recordings(kind, most).0);
+        }
+    }
+    bench_order::check();
+    println!("the library and the baseline convert and order alike");
 }
 
 fn usage() -> ! {
-    println!("bench [--runs N] [mixed | runs | 0 to 8 ..], N at least 9, or bench --check");
+    println!("bench [--runs N] [mixed | runs | 0 to 8 | linear | order ..], N at least 9, or bench --check");
     std::process::exit(2)
 }
 
@@ -212,25 +227,20 @@ fn main() {
     let mut kinds = Vec::new();
     while let Some(arg) = args.next() {
         match &arg[..] {
-            "--check" => {
-                for kind in KINDS {
-                    for most in [9, 100, 1_000, 100_000, 1_000_000] {
-                        check(kind, &recordings(kind, most).0);
-                    }
-                }
-                println!("the library and the baseline convert alike");
-                return;
-            }
+            "--check" => return check_all(),
             "--runs" => runs = args.next().and_then(|n| n.parse().ok()).filter(|n| *n >= 9).unwrap_or_else(|| usage()),
-            "mixed" | "runs" | "0" | "1" | "2" | "3" | "4" | "5" | "6" | "7" | "8" => kinds.push(arg),
+            "mixed" | "runs" | "0" | "1" | "2" | "3" | "4" | "5" | "6" | "7" | "8" | "linear" | "order" => kinds.push(arg),
             _ => usage(),
         }
     }
     if kinds.is_empty() {
-        kinds = KINDS.map(String::from).to_vec();
+        kinds = KINDS.into_iter().chain(["linear", "order"]).map(String::from).collect();
     }
     for kind in kinds {
-        compare(&kind, runs);
+        match &kind[..] {
+            "linear" => linear_cost(runs),
+            "order" => bench_order::compare(runs),
+            _ => compare(&kind, runs),
+        }
     }
-    linear_cost(runs);
 }

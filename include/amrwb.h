@@ -1,5 +1,5 @@
-/* The AMR-WB voice adapter's C interface: whole recordings, one frame, and the reception class. Level one's library has the calls for
- * recordings, with formats 1 and 2; level two's has every call here, with formats 1 to 3.
+/* The AMR-WB voice adapter's C interface: whole recordings, one frame, the reception class, the codec's bit order, a viewer and the report.
+ * Level one's library has the three calls for recordings, with formats 1 and 2; level two's has every call here, with formats 1 to 3.
  *
  * Octets are lent as a pointer and a length; a length of 0 may come with any pointer that is not null. The lent buffers of one call
  * must not overlap. No call keeps a pointer, uses the heap or fails in another way than by its answer.
@@ -11,12 +11,12 @@
  *   1 no octets              2 reserved frame type (10 to 13)    3 fewer octets than the type's    4 octets behind a single frame
  *   5 spare or filling bit 1 6 a mode or field out of range      7 CRC                             8 header of a stored recording
  *   9 recording too long, read or about to be written           10 buffer shorter than needed
- *   11 another argument out of its range
- * Where several apply, the one that comes first in this order is given: 11, 9 for what is read, 8, the first refused frame by 1 to 7, 9
+ *   11 another argument out of its range                        12 codec order of modes 5 to 8
+ * Where several apply, the one that comes first in this order is given: 11, 9 for what is read, 8, the first refused frame by 1 to 7, 12, 9
  * for what would be written, 10. 1 and 4 come in a call for one frame only, 8 and 9 in a call for a recording only. At 2 to 7 in a
  * recording, frame counts its frames from 0, and octet is the place of that frame's first octet, from 0 at the recording's start, header
- * included; else both are 0. At a refusal every other field is 0, and no lent octet is changed. Otherwise octets of a buffer beyond the
- * written ones stay.
+ * included; else both are 0. At a refusal every other field is 0, but for offset and number of amrwb_view_next, and no lent octet is
+ * changed. Otherwise octets of a buffer beyond the written ones stay.
  *
  * A frame type is 0 to 9, 14 or 15; quality is the FQI (0 bad, 1 good); indication and request are modes, 0 to 8. A core is packed:
  * d(0) is the top bit of its first octet, and filling bits are 0. Type 0 to 9 has 17, 23, 32, 36, 40, 46, 50, 58, 60, 5 octets
@@ -54,6 +54,21 @@ typedef struct {
     /* 1 speech good, 2 speech bad, 3 SID first, 4 SID update, 5 SID bad, 6 speech lost, 7 no data */
 } amrwb_class_answer;
 
+typedef struct {
+    uint64_t refusal, frame, octet;
+    uint64_t end; /* 1 at the end of the recording, else 0 */
+    uint64_t type, quality;
+    uint64_t indication, request;
+    uint64_t core_octets;    /* octets written to core */
+    uint64_t offset, number; /* the next frame's first octet, from 0 at the recording's start, and its number, from 0 */
+} amrwb_view;
+
+typedef struct {
+    uint64_t refusal, frame, octet;
+    uint64_t octets, frames;               /* of the recording */
+    uint64_t speech, comfort, lost, empty; /* frames of type 0 to 8, 9, 14 and 15 */
+} amrwb_counts;
+
 /* Levels one and two: recordings. */
 
 /* Reads the recording rec of a format to its end. octets is 0. */
@@ -82,6 +97,34 @@ amrwb_answer amrwb_build_stored(uint64_t type, uint64_t quality, const uint8_t *
 
 /* The reception class of a frame; sti (0 or 1) counts for type 9 alone. 11 for a number out of its range, then 2. */
 amrwb_class_answer amrwb_class(uint64_t type, uint64_t quality, uint64_t sti);
+
+/* Level two: the codec's bit order. A row has one octet of 0 or 1 for each bit s(1) to s(K) of the codec, in its order; K is 132, 177, 253,
+ * 285, 317, 365, 397, 461, 477 for mode 0 to 8. There are tables for modes 0 to 4: modes 5 to 8 are judged like these, and then 12. */
+
+/* Writes the packed core of a row to core. 11 for a mode above 8, a row with another length than K or a value above 1; then 12, 10. */
+amrwb_answer amrwb_order_to_core(uint64_t mode, const uint8_t *row, size_t row_len, uint8_t *core, size_t core_len);
+
+/* Writes the row of a packed core to row. 11 for a mode above 8 or a core that does not have exactly the mode's octets; then 5 for a
+ * filling bit 1, 12, 10. */
+amrwb_answer amrwb_order_to_row(uint64_t mode, const uint8_t *core, size_t core_len, uint8_t *row, size_t row_len);
+
+/* Level two: a viewer, which hands out the frames of a recording in turn. The host keeps format, offset and number between the calls, and
+ * lends the same recording to each. */
+
+/* Opens the recording rec of a format: offset is its first frame's, and number is 0. 11 for the format, 9, 8; no frame is read. */
+amrwb_view amrwb_view_open(uint64_t format, const uint8_t *rec, size_t len);
+
+/* Reads the frame at offset, with the given number, and writes its packed core to core; offset and number of the answer are the next
+ * frame's. At the end of the recording (offset is len) end is 1. There, and at a refusal, offset and number stay as given. 11 for the
+ * format, an offset above len or a number above offset; then the frame by 2 to 7, with number and offset as its place; then 10. Length
+ * and header of the recording are not judged again. */
+amrwb_view amrwb_view_next(uint64_t format, uint64_t offset, uint64_t number, const uint8_t *rec, size_t len, uint8_t *core,
+                           size_t core_len);
+
+/* Level two: the report. */
+
+/* Reads the stored recording rec, here of at most 65,536 octets (else 9), to its end, and counts its frames by class. */
+amrwb_counts amrwb_report(const uint8_t *rec, size_t len);
 
 #ifdef __cplusplus
 }

@@ -1,11 +1,21 @@
 //! Compares the compiled, proved library with the second program on many calls, valid and damaged: the answer, and every lent octet
 //! (buffers hold a pattern before the call). The first argument is the number of calls, the second the seed.
+mod compare_order;
 mod compare_recordings;
+mod compare_reports;
+mod compare_views;
 mod frame;
+mod order;
+mod printed;
 mod random;
 mod recording;
+mod report;
+mod view;
 
+use compare_order::Orders;
 use compare_recordings::{Answer, Recordings};
+use compare_reports::Reports;
+use compare_views::Views;
 use random::{pattern, Random, Tally, TYPES};
 
 #[repr(C)]
@@ -156,13 +166,17 @@ fn main() {
     let mut g = Random::new(args.next().unwrap_or(1));
     let (mut reads, mut builds, mut classes) = (Tally::default(), Tally::default(), Tally::default());
     let mut recordings = Recordings::new(3);
+    let (mut orders, mut views, mut reports) = (Orders::new(), Views::default(), Reports::default());
     let mut wrong = 0;
     for _ in 0..calls {
-        let same = match g.below(16) {
+        let same = match g.below(20) {
             0..=3 => compare_read(&mut g, &mut reads),
             4..=6 => compare_build(&mut g, &mut builds),
             7 => compare_class(&mut g, &mut classes),
-            _ => recordings.compare(&mut g),
+            8..=13 => recordings.compare(&mut g),
+            14..=16 => orders.compare(&mut g),
+            17..=18 => views.compare(&mut g),
+            _ => reports.compare(&mut g),
         };
         if !same {
             wrong += 1;
@@ -172,17 +186,25 @@ fn main() {
         }
     }
     // long calls: only where the others agree
-    if wrong > 0 || !recordings.compare_limits() {
+    let same = wrong == 0
+        && orders.compare_encoder()
+        && recordings.compare_limits()
+        && views.compare_limits()
+        && reports.compare_limits();
+    if !same {
         println!("the library and the second program differ");
         std::process::exit(1);
     }
     let all = reads.show("read", &[0, 1, 2, 3, 4, 5, 6, 7, 10, 11])
         & builds.show("build", &[0, 2, 5, 6, 10, 11])
         & classes.show("class", &[0, 2, 11])
-        & recordings.show();
+        & recordings.show()
+        & orders.show()
+        & views.show()
+        & reports.show();
     if !all {
         println!("some answer never came: the calls are too few");
         std::process::exit(1);
     }
-    println!("the library and the second program agree on {calls} calls, and at the length limit");
+    println!("the library and the second program agree on {calls} calls, on a real encoder's bit order, and at the length limits");
 }

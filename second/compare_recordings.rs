@@ -1,6 +1,6 @@
 //! Compares the calls for recordings, in the library that the comparison is linked with, with the second program.
 use crate::frame::{self, Frame};
-use crate::random::{pattern, Random, Tally, TYPES};
+use crate::random::{written, Random, Tally, TYPES};
 use crate::recording::{self, Converted, Refusal, HEADER, LIMIT};
 
 #[repr(C)]
@@ -33,7 +33,7 @@ fn answer(done: Result<(usize, usize), Refusal>) -> [u64; 5] {
 }
 
 /// A right frame of a format: its fields by chance, type 0 to 9, 14 or 15.
-fn right_frame(g: &mut Random, format: u64, ftype: u64) -> Frame {
+pub fn right_frame(g: &mut Random, format: u64, ftype: u64) -> Frame {
     let mut core = g.octets(60);
     if ftype == 9 {
         core[4] = core[4] & 0xF0 | g.below(9) as u8;
@@ -87,12 +87,18 @@ fn change_a_bit(g: &mut Random, s: &mut [u8]) {
     }
 }
 
-fn change_the_header(g: &mut Random, rec: &mut Vec<u8>) {
+pub fn change_the_header(g: &mut Random, rec: &mut Vec<u8>) {
     match g.below(3) {
         0 => rec.truncate(g.below(HEADER.len() as u64) as usize),
         1 => drop(rec.drain(..HEADER.len())),
         _ => change_a_bit(g, &mut rec[..HEADER.len()]),
     }
+}
+
+/// A recording for a call with this format, which may be out of its range: mostly one of that format.
+pub fn recording_for(g: &mut Random, format: u64) -> Vec<u8> {
+    let format = if (1..=3).contains(&format) && !g.one_in(20) { format } else { 1 + g.below(3) };
+    some_recording(g, format)
 }
 
 /// A recording of up to 12 frames, right or damaged, or octets by chance.
@@ -128,7 +134,7 @@ fn some_recording(g: &mut Random, format: u64) -> Vec<u8> {
     rec
 }
 
-fn some_format(g: &mut Random, last: u64) -> u64 {
+pub fn some_format(g: &mut Random, last: u64) -> u64 {
     if g.one_in(16) { g.one_of(&[0, last + 1, 4, 9, 255, 256, 257, 258, 259, 1 << 32, (1 << 32) + 1, u64::MAX]) } else { 1 + g.below(last) }
 }
 
@@ -136,8 +142,8 @@ fn some_request(g: &mut Random) -> u64 {
     if g.one_in(16) { g.one_of(&[9, 10, 15, 16, 255, 256, 1 << 32, u64::MAX]) } else { g.below(9) }
 }
 
-/// Octets of a buffer for a conversion that needs so many: often just these, one fewer or none.
-fn some_room(g: &mut Random, need: usize) -> usize {
+/// Octets of a buffer for a call that needs so many: often just these, one fewer or none.
+pub fn some_room(g: &mut Random, need: usize) -> usize {
     match g.below(6) {
         0 => need.saturating_sub(1),
         1 => g.below(need as u64 + 1) as usize,
@@ -148,7 +154,7 @@ fn some_room(g: &mut Random, need: usize) -> usize {
 }
 
 /// A right recording of one format that takes exactly so many octets in another: frames of one type, and at its end frames of one octet.
-fn filled(from: u64, to: u64, ftype: u64, octets: usize) -> Vec<u8> {
+pub fn filled(from: u64, to: u64, ftype: u64, octets: usize) -> Vec<u8> {
     let mut g = Random::new(7);
     let octets = octets - if to == 3 { HEADER.len() } else { 0 };
     let one = frame::octets(to, ftype).unwrap();
@@ -190,8 +196,7 @@ impl Recordings {
     /// One recording by chance; true where both agree.
     pub fn compare(&mut self, g: &mut Random) -> bool {
         let (from, to, request) = (some_format(g, self.last), some_format(g, self.last), some_request(g));
-        let format = if (1..=3).contains(&from) && !g.one_in(20) { from } else { 1 + g.below(3) };
-        let rec = some_recording(g, format);
+        let rec = recording_for(g, from);
         if g.one_in(4) {
             return self.validate(from, &rec);
         }
@@ -221,16 +226,12 @@ impl Recordings {
         agree(got == want && c.rec == kept, &format!("convert_length {}", c.shown()), c.rec, got, want)
     }
 
-    /// The buffer has 16 octets behind the lent ones, which must stay too.
     fn convert(&mut self, c: &Call, room: usize) -> bool {
         let kept = c.rec.to_vec();
-        let mut out = pattern(room + 16);
+        let mut out = written(room, &[]);
         let got = unsafe { amrwb_convert(c.from, c.to, c.request, c.rec.as_ptr(), c.rec.len(), out.as_mut_ptr(), room) }.fields();
         let done = recording::into_buffer(&c.done, room);
-        let mut want_out = pattern(room + 16);
-        if let Ok((_, octets)) = done {
-            want_out[..octets.len()].copy_from_slice(octets);
-        }
+        let want_out = written(room, done.map_or(&[], |done| &done.1));
         let want = answer(done.map(|done| (done.0, done.1.len())));
         self.conversions.count(want[0]);
         let shown = format!("convert {} into {room} octets", c.shown());
@@ -291,10 +292,11 @@ impl Recordings {
     }
 }
 
-fn agree(same: bool, call: &str, rec: &[u8], got: [u64; 5], want: [u64; 5]) -> bool {
+/// Prints a call in which the library differs from the second program.
+pub fn agree<const N: usize>(same: bool, call: &str, octets: &[u8], got: [u64; N], want: [u64; N]) -> bool {
     if !same {
-        let shown = &rec[..rec.len().min(1000)];
-        println!("{call}, recording of {} octets {shown:02X?}: {got:?} and not {want:?}, or a lent octet", rec.len());
+        let shown = &octets[..octets.len().min(1000)];
+        println!("{call}, {} octets {shown:02X?}: {got:?} and not {want:?}, or a lent octet", octets.len());
     }
     same
 }

@@ -59,3 +59,13 @@ impl Tally {
 pub fn pattern(n: usize) -> Vec<u8> {
     (0..n).map(|i| (i as u8).wrapping_mul(37) ^ 0xA7).collect()
 }
+
+/// Octets behind the lent ones of a buffer, which must stay too.
+pub const BEHIND: usize = 16;
+
+/// A buffer with what lies behind it, as a call leaves it that writes these octets.
+pub fn written(room: usize, octets: &[u8]) -> Vec<u8> {
+    let mut buffer = pattern(room + BEHIND);
+    buffer[..octets.len()].copy_from_slice(octets);
+    buffer
+}

@@ -9,30 +9,43 @@ pub const HEADER: &[u8] = b"#!AMR-WB\n";
 #[derive(Clone, Copy, PartialEq, Debug)]
 pub struct Refusal(pub u64, pub u64, pub u64);
 
-fn outside(number: u64) -> Refusal {
+pub fn outside(number: u64) -> Refusal {
     Refusal(number, 0, 0)
+}
+
+/// `last` is the level's last format: 2 in level one, 3 in level two.
+pub fn format_in(last: u64, format: u64) -> Result<(), Refusal> {
+    if format < 1 || format > last { Err(outside(11)) } else { Ok(()) }
+}
+
+pub fn length_in(limit: usize, rec: &[u8]) -> Result<(), Refusal> {
+    if rec.len() > limit { Err(outside(9)) } else { Ok(()) }
 }
 
 fn header(format: u64) -> &'static [u8] {
     if format == 3 { HEADER } else { &[] }
 }
 
+/// Where the frames of a recording begin, its format and length in range.
+pub fn start(format: u64, rec: &[u8]) -> Result<usize, Refusal> {
+    if rec.starts_with(header(format)) { Ok(header(format).len()) } else { Err(outside(8)) }
+}
+
+/// The frame that some octets begin with, and how many of them it takes.
+pub fn first_frame(format: u64, rest: &[u8]) -> Result<(Frame, usize), u64> {
+    let ftype = if format == 3 { rest[0] >> 3 & 15 } else { rest[0] >> 4 } as u64;
+    // A frame ends where its type says; read refuses a reserved type and too few octets itself.
+    let n = frame::octets(format, ftype).unwrap_or(1).min(rest.len());
+    Ok((frame::read(format, &rest[..n], usize::MAX)?, n))
+}
+
 /// The frames of a recording, its format and length in range.
-fn frames(format: u64, rec: &[u8]) -> Result<Vec<Frame>, Refusal> {
-    if !rec.starts_with(header(format)) {
-        return Err(outside(8));
-    }
+pub fn frames(format: u64, rec: &[u8]) -> Result<Vec<Frame>, Refusal> {
     let mut list = Vec::new();
-    let mut at = header(format).len();
+    let mut at = start(format, rec)?;
     while at < rec.len() {
-        let rest = &rec[at..];
-        let ftype = if format == 3 { rest[0] >> 3 & 15 } else { rest[0] >> 4 } as u64;
-        // A frame ends where its type says; read refuses a reserved type and too few octets itself.
-        let n = frame::octets(format, ftype).unwrap_or(1).min(rest.len());
-        match frame::read(format, &rest[..n], usize::MAX) {
-            Ok(x) => list.push(x),
-            Err(number) => return Err(Refusal(number, list.len() as u64, at as u64)),
-        }
+        let (x, n) = first_frame(format, &rec[at..]).map_err(|number| Refusal(number, list.len() as u64, at as u64))?;
+        list.push(x);
         at += n;
     }
     Ok(list)
@@ -49,14 +62,10 @@ fn carried(from: u64, to: u64, request: u64, x: Frame) -> Frame {
     Frame { indication, request, ..x }
 }
 
-/// Frames of a recording. `last` is the level's last format: 2 in level one, 3 in level two.
+/// Frames of a recording.
 pub fn validate(last: u64, format: u64, rec: &[u8]) -> Result<usize, Refusal> {
-    if format < 1 || format > last {
-        return Err(outside(11));
-    }
-    if rec.len() > LIMIT {
-        return Err(outside(9));
-    }
+    format_in(last, format)?;
+    length_in(LIMIT, rec)?;
     Ok(frames(format, rec)?.len())
 }
 
@@ -65,21 +74,19 @@ pub type Converted = Result<(usize, Vec<u8>), Refusal>;
 
 /// A conversion, judged up to 9 for what would be written.
 pub fn converted(last: u64, from: u64, to: u64, request: u64, rec: &[u8]) -> Converted {
-    if from < 1 || from > last || to < 1 || to > last || request > 8 {
+    format_in(last, from)?;
+    format_in(last, to)?;
+    if request > 8 {
         return Err(outside(11));
     }
-    if rec.len() > LIMIT {
-        return Err(outside(9));
-    }
+    length_in(LIMIT, rec)?;
     let list = frames(from, rec)?;
     let count = list.len();
     let mut out = header(to).to_vec();
     for x in list {
         out.extend(frame::layout(to, &carried(from, to, request, x)));
     }
-    if out.len() > LIMIT {
-        return Err(outside(9));
-    }
+    length_in(LIMIT, &out)?;
     Ok((count, out))
 }
 
