@@ -154,7 +154,7 @@ fn bits(mode: u64) -> Option<usize> { BITS.get(usize::try_from(mode).ok()?).copi
 /// From the codec's row to the packed core: the octets written, or the refusal's number.
 pub fn to_core(mode: u64, row: &[u8], core: &mut [u8]) -> Result<usize, u8> {
     let bits = bits(mode).ok_or(11)?;
-    if row.len() != bits || row.iter().any(|s| *s > 1) { return Err(11); }
+    if row.len() != bits || row.iter().fold(0, |all, s| all | s) > 1 { return Err(11); }
     let table = table(mode).ok_or(12)?;
     let octets = packed(bits);
     if core.len() < octets { return Err(10); }

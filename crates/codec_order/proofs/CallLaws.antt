@@ -22,6 +22,7 @@ use Rattle.frame.specs.declared.Refusal.{Refusal}
 use Rattle.frame.specs.declared.Built.{Built}
 use Rattle.frame.specs.declared.Built.the-variants.{Octets, Refused}
 use Rattle.frame_builder.specs.Output.{IntoOutput}
+use Rattle.codec_order.specs.Ready.{RowReady, CoreReady, withCore, withRow}
 
 -- ---- the tables
 
@@ -64,31 +65,27 @@ module _ (m : ℕ) (row : List ℕ) (room : ℕ) where
     unfolding toCoreCall
     core-fits n r = rw (le-leb m 8 h, eq-eqb _ _ l, v, le-leb m 4 n, le-leb _ _ r, core-size m row n)
 
-  pub record RowTaken (w : List ℕ) : Type 0 where
-    pub ordered-mode : m ≤ 4
-    pub size : length row ≡ coreBits m
-    pub values : zeroOrOne row ≡ true
-    pub space : coreOctets m ≤ room
-    pub written : pack (ordered (orderTable m) (rowBits row)) ≡ w
-
-  pub row-taken : (w : List ℕ) → toCoreCall m row room ≡ ok w → RowTaken w
-  unfolding toCoreCall
-  row-taken w e = go (leb m 8 && (eqb (length row) (coreBits m) && zeroOrOne row)) (leb m 4) (leb (coreOctets m) room) refl refl refl e
-    where
-      go : (b₁ b₂ b₃ : Bool) → (leb m 8 && (eqb (length row) (coreBits m) && zeroOrOne row)) ≡ b₁ → leb m 4 ≡ b₂ → leb (coreOctets m) room ≡ b₃
-          → unless 11 b₁ (unless 12 b₂ (unless 10 b₃ (ok (pack (ordered (orderTable m) (rowBits row)))))) ≡ ok w → RowTaken w
-      go true true true e₁ e₂ e₃ e =
-          let r = and-right (leb m 8) _ e₁ in
+pub row-taken : (m : ℕ) (row core w : List ℕ) → toCoreCall m row (length core) ≡ ok w → RowReady m row core × (withCore m row core ≡ overwritten w core)
+unfolding toCoreCall
+row-taken m row core w e =
+    go (leb m 8 && (eqb (length row) (coreBits m) && zeroOrOne row)) (leb m 4) (leb (coreOctets m) (length core)) refl refl refl e
+  where
+    go : (b₁ b₂ b₃ : Bool) → (leb m 8 && (eqb (length row) (coreBits m) && zeroOrOne row)) ≡ b₁ → leb m 4 ≡ b₂ → leb (coreOctets m) (length core) ≡ b₃
+        → unless 11 b₁ (unless 12 b₂ (unless 10 b₃ (ok (pack (ordered (orderTable m) (rowBits row)))))) ≡ ok w
+        → RowReady m row core × (withCore m row core ≡ overwritten w core)
+    go true true true e₁ e₂ e₃ e =
+        let r = and-right (leb m 8) _ e₁ in (
           record {
-            ordered-mode = leb-true _ _ e₂;
+            has-order = leb-true _ _ e₂;
             size = eqb-true _ _ (and-left _ _ r);
             values = and-right (eqb (length row) (coreBits m)) _ r;
-            space = leb-true _ _ e₃;
-            written = cc;
-          }
-      go false b₂ b₃ e₁ e₂ e₃ e = never 11 w e
-      go true false b₃ e₁ e₂ e₃ e = never 12 w e
-      go true true false e₁ e₂ e₃ e = never 10 w e
+            room = leb-true _ _ e₃;
+          },
+          ap (λ v. overwritten v core) (let q : pack (ordered (orderTable m) (rowBits row)) ≡ w = cc in q),
+        )
+    go false b₂ b₃ e₁ e₂ e₃ e = never 11 w e
+    go true false b₃ e₁ e₂ e₃ e = never 12 w e
+    go true true false e₁ e₂ e₃ e = never 10 w e
 
 -- ---- from core to row
 
@@ -118,28 +115,22 @@ module _ (m : ℕ) (core : List ℕ) (room : ℕ) where
     unfolding toRowCall
     row-fits n r = rw (le-leb m 8 h, eq-eqb _ _ l, v, le-leb m 4 n, le-leb _ _ r, row-size m core n)
 
-  pub record CoreTaken (w : List ℕ) : Type 0 where
-    pub ordered-mode : m ≤ 4
-    pub size : length core ≡ coreOctets m
-    pub space : coreBits m ≤ room
-    pub written : rowOctets (unordered (orderTable m) (bufferCore core m)) ≡ w
-
-  pub core-taken : (w : List ℕ) → toRowCall m core room ≡ ok w → CoreTaken w
-  unfolding toRowCall
-  core-taken w e = go (leb m 8 && eqb (length core) (coreOctets m)) (coreFillClear m core) (leb m 4) (leb (coreBits m) room) refl refl refl e
-    where
-      go : (b₁ b₂ b₃ b₄ : Bool) → (leb m 8 && eqb (length core) (coreOctets m)) ≡ b₁ → leb m 4 ≡ b₃ → leb (coreBits m) room ≡ b₄
-          → unless 11 b₁ (unless 5 b₂ (unless 12 b₃ (unless 10 b₄ (ok (rowOctets (unordered (orderTable m) (bufferCore core m))))))) ≡ ok w → CoreTaken w
-      go true true true true e₁ e₃ e₄ e = record {
-        ordered-mode = leb-true _ _ e₃;
-        size = eqb-true _ _ (and-right (leb m 8) _ e₁);
-        space = leb-true _ _ e₄;
-        written = cc;
-      }
-      go false b₂ b₃ b₄ e₁ e₃ e₄ e = never 11 w e
-      go true false b₃ b₄ e₁ e₃ e₄ e = never 5 w e
-      go true true false b₄ e₁ e₃ e₄ e = never 12 w e
-      go true true true false e₁ e₃ e₄ e = never 10 w e
+pub core-taken : (m : ℕ) (core row w : List ℕ) → toRowCall m core (length row) ≡ ok w → CoreReady m core row × (withRow m core row ≡ overwritten w row)
+unfolding toRowCall
+core-taken m core row w e =
+    go (leb m 8 && eqb (length core) (coreOctets m)) (coreFillClear m core) (leb m 4) (leb (coreBits m) (length row)) refl refl refl e
+  where
+    go : (b₁ b₂ b₃ b₄ : Bool) → (leb m 8 && eqb (length core) (coreOctets m)) ≡ b₁ → leb m 4 ≡ b₃ → leb (coreBits m) (length row) ≡ b₄
+        → unless 11 b₁ (unless 5 b₂ (unless 12 b₃ (unless 10 b₄ (ok (rowOctets (unordered (orderTable m) (bufferCore core m))))))) ≡ ok w
+        → CoreReady m core row × (withRow m core row ≡ overwritten w row)
+    go true true true true e₁ e₃ e₄ e = (
+      record { has-order = leb-true _ _ e₃; size = eqb-true _ _ (and-right (leb m 8) _ e₁); room = leb-true _ _ e₄ },
+      ap (λ v. overwritten v row) (let q : rowOctets (unordered (orderTable m) (bufferCore core m)) ≡ w = cc in q),
+    )
+    go false b₂ b₃ b₄ e₁ e₃ e₄ e = never 11 w e
+    go true false b₃ b₄ e₁ e₃ e₄ e = never 5 w e
+    go true true false b₄ e₁ e₃ e₄ e = never 12 w e
+    go true true true false e₁ e₃ e₄ e = never 10 w e
 
 -- ---- either call: its answer and its buffer, from what was judged
 
@@ -171,26 +162,28 @@ last-mode (suc (suc zero)) h n₀ n₁ n₂ n₃ = absurd (n₂ refl)
 last-mode (suc (suc (suc zero))) h n₀ n₁ n₂ n₃ = absurd (n₃ refl)
 last-mode (suc (suc (suc (suc m)))) h n₀ n₁ n₂ n₃ = omega arith
 
-module _ (m : ℕ) (table : List ℕ) (h : m ≤ 4) (t : orderTable m ≡ table) where
-  pub core-asked : (row core : List ℕ) → length row ≡ coreBits m → zeroOrOne row ≡ true → coreOctets m ≤ length core
+module _ (m : ℕ) (table : List ℕ) (t : orderTable m ≡ table) where
+  pub core-asked : (row core : List ℕ) → RowReady m row core
       → Permutes (length row) table × (zeroOrOne row ≡ true) × (octetsFor (length table) ≤ length core)
-  core-asked row core l v r =
-      let p = permutes-as m (coreBits m) table h refl t in
-      (permutes-as m (length row) table h l t, v, subst (λ k. octetsFor k ≤ length core) (sym (p .whole)) r)
+  core-asked row core r =
+      let p = permutes-as m (coreBits m) table (r .has-order) refl t in (
+        permutes-as m (length row) table (r .has-order) (r .size) t,
+        r .values,
+        subst (λ k. octetsFor k ≤ length core) (sym (p .whole)) (r .room),
+      )
 
-  pub row-asked : (core row : List ℕ) → length core ≡ coreOctets m → coreBits m ≤ length row
+  pub row-asked : (core row : List ℕ) → CoreReady m core row
       → Permutes (length table) table × (length table ≤ 8 * length core) × (length table ≤ length row)
-  row-asked core row l r =
-      let w = permutes-as m (coreBits m) table h refl t .whole in
-      (permutes-as m (length table) table h w t, omega arith, omega arith)
+  row-asked core row r =
+      let w = permutes-as m (coreBits m) table (r .has-order) refl t .whole in
+      (permutes-as m (length table) table (r .has-order) w t, omega (arith, r .size), omega (arith, r .room))
 
-  pub core-put : (row core₀ core : List ℕ) → core ≡ overwritten (pack (ordered table (rowBits row))) core₀
-      → core ≡ overwritten (pack (ordered (orderTable m) (rowBits row))) core₀
+  pub core-put : (row core₀ core : List ℕ) → core ≡ overwritten (pack (ordered table (rowBits row))) core₀ → core ≡ withCore m row core₀
   core-put row core₀ core e = e ∙ ap (λ t. overwritten (pack (ordered t (rowBits row))) core₀) (sym t)
 
-  pub row-put : (core row₀ row : List ℕ) → row ≡ overwritten (rowOctets (unordered table (take (length table) (bits core)))) row₀
-      → row ≡ overwritten (rowOctets (unordered (orderTable m) (bufferCore core m))) row₀
-  row-put core row₀ row e =
+  pub row-put : (core row₀ row : List ℕ) → CoreReady m core row₀
+      → row ≡ overwritten (rowOctets (unordered table (take (length table) (bits core)))) row₀ → row ≡ withRow m core row₀
+  row-put core row₀ row r e =
       e
-      ∙ ap (λ k. overwritten (rowOctets (unordered table (take k (bits core)))) row₀) (permutes-as m (coreBits m) table h refl t .whole)
+      ∙ ap (λ k. overwritten (rowOctets (unordered table (take k (bits core)))) row₀) (permutes-as m (coreBits m) table (r .has-order) refl t .whole)
       ∙ ap (λ t. overwritten (rowOctets (unordered t (bufferCore core m))) row₀) (sym t)

@@ -17,12 +17,12 @@ ghost use mathlib.Core.Bool.{true};
 ghost use Prim.Native.Nat.{_+_, _*_, _≤_, _<_};
 ghost use lib.ListN.{length, take, drop};
 ghost use Rattle.bits.specs.Bits.{num, bits, pack, octetsFor};
-ghost use Rattle.definitions.specs.Frames.{coreBits, coreOctets};
-ghost use Rattle.definitions.specs.Reading.{bufferCore, counted, overwritten};
-ghost use Rattle.definitions.specs.Order.{orderTable, zeroOrOne, rowBits, rowOctets, ordered, unordered, toCoreCall, toRowCall};
+ghost use Rattle.definitions.specs.Reading.{counted, overwritten};
+ghost use Rattle.definitions.specs.Order.{zeroOrOne, rowBits, rowOctets, ordered, unordered, toCoreCall, toRowCall};
 ghost use Rattle.definitions.specs.Claims.{Permutes};
 ghost use Rattle.frame.specs.Answers.{builtOf};
 ghost use Rattle.frame_builder.specs.Output.{IntoOutput};
+ghost use Rattle.codec_order.specs.Ready.{RowReady, CoreReady, withCore, withRow};
 
 // Modes 5 to 8 have no table.
 const HIGHEST_ORDERED: u64 = 4;
@@ -84,30 +84,100 @@ fn row_by(table: &[u16], core: &[u8], row: &mut [u8])
     }
 }
 
-// The same by the mode's table.
+// The same by the table of each mode. A function for each, since a function builds all tables that it names on the stack, at each call.
+fn core_0(row: &[u8], core: &mut [u8])
+    requires { ⌜ RowReady 0 (now row) (now core) ⌝ }
+    ensures { λ _. ⌜ now (core .exit) ≡ withCore 0 (now (row .entry)) (now (core .entry)) ⌝ }
+{
+    core_by(&TABLE_0, row, core)
+}
+
+fn core_1(row: &[u8], core: &mut [u8])
+    requires { ⌜ RowReady 1 (now row) (now core) ⌝ }
+    ensures { λ _. ⌜ now (core .exit) ≡ withCore 1 (now (row .entry)) (now (core .entry)) ⌝ }
+{
+    core_by(&TABLE_1, row, core)
+}
+
+fn core_2(row: &[u8], core: &mut [u8])
+    requires { ⌜ RowReady 2 (now row) (now core) ⌝ }
+    ensures { λ _. ⌜ now (core .exit) ≡ withCore 2 (now (row .entry)) (now (core .entry)) ⌝ }
+{
+    core_by(&TABLE_2, row, core)
+}
+
+fn core_3(row: &[u8], core: &mut [u8])
+    requires { ⌜ RowReady 3 (now row) (now core) ⌝ }
+    ensures { λ _. ⌜ now (core .exit) ≡ withCore 3 (now (row .entry)) (now (core .entry)) ⌝ }
+{
+    core_by(&TABLE_3, row, core)
+}
+
+fn core_4(row: &[u8], core: &mut [u8])
+    requires { ⌜ RowReady 4 (now row) (now core) ⌝ }
+    ensures { λ _. ⌜ now (core .exit) ≡ withCore 4 (now (row .entry)) (now (core .entry)) ⌝ }
+{
+    core_by(&TABLE_4, row, core)
+}
+
+fn row_0(core: &[u8], row: &mut [u8])
+    requires { ⌜ CoreReady 0 (now core) (now row) ⌝ }
+    ensures { λ _. ⌜ now (row .exit) ≡ withRow 0 (now (core .entry)) (now (row .entry)) ⌝ }
+{
+    row_by(&TABLE_0, core, row)
+}
+
+fn row_1(core: &[u8], row: &mut [u8])
+    requires { ⌜ CoreReady 1 (now core) (now row) ⌝ }
+    ensures { λ _. ⌜ now (row .exit) ≡ withRow 1 (now (core .entry)) (now (row .entry)) ⌝ }
+{
+    row_by(&TABLE_1, core, row)
+}
+
+fn row_2(core: &[u8], row: &mut [u8])
+    requires { ⌜ CoreReady 2 (now core) (now row) ⌝ }
+    ensures { λ _. ⌜ now (row .exit) ≡ withRow 2 (now (core .entry)) (now (row .entry)) ⌝ }
+{
+    row_by(&TABLE_2, core, row)
+}
+
+fn row_3(core: &[u8], row: &mut [u8])
+    requires { ⌜ CoreReady 3 (now core) (now row) ⌝ }
+    ensures { λ _. ⌜ now (row .exit) ≡ withRow 3 (now (core .entry)) (now (row .entry)) ⌝ }
+{
+    row_by(&TABLE_3, core, row)
+}
+
+fn row_4(core: &[u8], row: &mut [u8])
+    requires { ⌜ CoreReady 4 (now core) (now row) ⌝ }
+    ensures { λ _. ⌜ now (row .exit) ≡ withRow 4 (now (core .entry)) (now (row .entry)) ⌝ }
+{
+    row_by(&TABLE_4, core, row)
+}
+
 fn put_core(mode: u64, row: &[u8], core: &mut [u8])
-    requires { ⌜ (mode ≤ 4) × (length (now row) ≡ coreBits mode) × (zeroOrOne (now row) ≡ true) × (coreOctets mode ≤ length (now core)) ⌝ }
-    ensures { λ _. ⌜ now (core .exit) ≡ overwritten (pack (ordered (orderTable mode) (rowBits (now (row .entry))))) (now (core .entry)) ⌝ }
+    requires { ⌜ RowReady mode (now row) (now core) ⌝ }
+    ensures { λ _. ⌜ now (core .exit) ≡ withCore mode (now (row .entry)) (now (core .entry)) ⌝ }
 {
     match mode {
-        0 => core_by(&TABLE_0, row, core),
-        1 => core_by(&TABLE_1, row, core),
-        2 => core_by(&TABLE_2, row, core),
-        3 => core_by(&TABLE_3, row, core),
-        _ => core_by(&TABLE_4, row, core),
+        0 => core_0(row, core),
+        1 => core_1(row, core),
+        2 => core_2(row, core),
+        3 => core_3(row, core),
+        _ => core_4(row, core),
     }
 }
 
 fn put_row(mode: u64, core: &[u8], row: &mut [u8])
-    requires { ⌜ (mode ≤ 4) × (length (now core) ≡ coreOctets mode) × (coreBits mode ≤ length (now row)) ⌝ }
-    ensures { λ _. ⌜ now (row .exit) ≡ overwritten (rowOctets (unordered (orderTable mode) (bufferCore (now (core .entry)) mode))) (now (row .entry)) ⌝ }
+    requires { ⌜ CoreReady mode (now core) (now row) ⌝ }
+    ensures { λ _. ⌜ now (row .exit) ≡ withRow mode (now (core .entry)) (now (row .entry)) ⌝ }
 {
     match mode {
-        0 => row_by(&TABLE_0, core, row),
-        1 => row_by(&TABLE_1, core, row),
-        2 => row_by(&TABLE_2, core, row),
-        3 => row_by(&TABLE_3, core, row),
-        _ => row_by(&TABLE_4, core, row),
+        0 => row_0(core, row),
+        1 => row_1(core, row),
+        2 => row_2(core, row),
+        3 => row_3(core, row),
+        _ => row_4(core, row),
     }
 }
 

@@ -1,8 +1,7 @@
 -- `codec_order::order_to_core` meets its contract: what is judged good is put in order, and nothing else is written. Assumes nothing.
-use mathlib.Core.Path.{ap, _∙_}
+use mathlib.Core.Path.{_∙_}
 use borrow.Author.Needs.{needs}
 use lib.ListN.{length}
-use Rattle.definitions.specs.Reading.{overwritten}
 use Rattle.definitions.specs.Order.{toCoreCall}
 use Rattle.codec_order.proofs.CallLaws.{row-taken, writes, refused-leaves, written-out}
 use Rattle.codec_order.proofs.order_to_core.Statement.{statement}
@@ -30,8 +29,7 @@ put-core-requires c κs =
     let j = c .before .before .before .before .judge-row in
     let r = c .before .before .r .given in
     let w = writes (toCoreCall (a .mode) (a .row .now) (length (a .core .now))) (j .result) (j .ensures) (a .core .now) (r .0 .0) (r .1) in
-    let t = row-taken (a .mode) (a .row .now) (length (a .core .now)) (w .0) (w .1) in
-    (t .ordered-mode, t .size, t .values, t .space)
+    row-taken (a .mode) (a .row .now) (a .core .now) (w .0) (w .1) .0
 
 same-length : tie.Need-same-length
 same-length c = search needs
@@ -43,9 +41,8 @@ returns-2 c =
     let r = c .before .before .before .before .before .r .given in
     let o = toCoreCall (a .mode) (a .row .now) (length (a .core .now)) in
     let w = writes o (j .result) (j .ensures) (a .core .now) (r .0 .0) (r .1) in
-    let t = row-taken (a .mode) (a .row .now) (length (a .core .now)) (w .0) (w .1) in
     written-out o (j .result) (j .ensures) (a .core .now) (r .0 .0) (w .0) _ (r .1) (w .1)
-    (c .before .before .put-core .ensures ∙ ap (λ v. overwritten v (a .core .now)) (t .written))
+    (c .before .before .put-core .ensures ∙ row-taken (a .mode) (a .row .now) (a .core .now) (w .0) (w .1) .1)
 
 pub order-to-core-spec : {M : Type 1} → statement M
 order-to-core-spec =

@@ -1,8 +1,7 @@
 -- `codec_order::order_to_row` meets its contract: what is judged good is put in order, and nothing else is written. Assumes nothing.
-use mathlib.Core.Path.{ap, _∙_}
+use mathlib.Core.Path.{_∙_}
 use borrow.Author.Needs.{needs}
 use lib.ListN.{length}
-use Rattle.definitions.specs.Reading.{overwritten}
 use Rattle.definitions.specs.Order.{toRowCall}
 use Rattle.codec_order.proofs.CallLaws.{core-taken, writes, refused-leaves, written-out}
 use Rattle.codec_order.proofs.order_to_row.Statement.{statement}
@@ -30,8 +29,7 @@ put-row-requires c κs =
     let j = c .before .before .before .before .judge-core in
     let r = c .before .before .r .given in
     let w = writes (toRowCall (a .mode) (a .core .now) (length (a .row .now))) (j .result) (j .ensures) (a .row .now) (r .0 .0) (r .1) in
-    let t = core-taken (a .mode) (a .core .now) (length (a .row .now)) (w .0) (w .1) in
-    (t .ordered-mode, t .size, t .space)
+    core-taken (a .mode) (a .core .now) (a .row .now) (w .0) (w .1) .0
 
 same-length : tie.Need-same-length
 same-length c = search needs
@@ -43,9 +41,8 @@ returns-2 c =
     let r = c .before .before .before .before .before .r .given in
     let o = toRowCall (a .mode) (a .core .now) (length (a .row .now)) in
     let w = writes o (j .result) (j .ensures) (a .row .now) (r .0 .0) (r .1) in
-    let t = core-taken (a .mode) (a .core .now) (length (a .row .now)) (w .0) (w .1) in
     written-out o (j .result) (j .ensures) (a .row .now) (r .0 .0) (w .0) _ (r .1) (w .1)
-    (c .before .before .put-row .ensures ∙ ap (λ v. overwritten v (a .row .now)) (t .written))
+    (c .before .before .put-row .ensures ∙ core-taken (a .mode) (a .core .now) (a .row .now) (w .0) (w .1) .1)
 
 pub order-to-row-spec : {M : Type 1} → statement M
 order-to-row-spec =

@@ -1,116 +1,85 @@
--- `codec_order::put_row` meets its contract: each table of the code is the one of its mode. Assumes nothing.
-use mathlib.Core.Path.{ap}
+-- `codec_order::put_row` meets its contract: each mode has its own function. Assumes nothing.
+use mathlib.Core.Path.{sym, ap, _∙_, subst}
 use borrow.Author.Needs.{needs}
-use Rattle.definitions.specs.Tables.{table0, table1, table2, table3, table4}
-use Rattle.definitions.specs.Order.{orderTable}
-use Rattle.codec_order.proofs.CallLaws.{last-mode, row-asked, row-put}
+use Rattle.codec_order.specs.Ready.{CoreReady, withRow}
+use Rattle.codec_order.proofs.CallLaws.{last-mode}
 use Rattle.codec_order.proofs.put_row.Statement.{statement}
 use Rattle.codec_order.proofs.put_row.Tie as tie
 
-slice-aggregate-row-by : tie.Need-slice-aggregate-row-by
-slice-aggregate-row-by c = search needs
+row-0-requires : tie.Need-row-0-requires
+row-0-requires c κs =
+    let s = c .before .before .before .before in
+    subst (λ m. CoreReady m (s .args .core .now) (s .args .row .now)) (c .before .match .keys1) (s .pre)
 
-row-by-requires : tie.Need-row-by-requires
-unfolding orderTable table0
-row-by-requires c κs =
-    let s = c .before .before .before .before .before in
-    row-asked _ _ (s .pre .0) (ap orderTable (c .before .before .match .keys1)) (s .args .core .now) (s .args .row .now) (s .pre .1) (s .pre .2)
+row-1-requires : tie.Need-row-1-requires
+row-1-requires c κs =
+    let s = c .before .before .before .before in
+    subst (λ m. CoreReady m (s .args .core .now) (s .args .row .now)) (c .before .match .keys2) (s .pre)
 
-slice-aggregate-row-by-2 : tie.Need-slice-aggregate-row-by-2
-slice-aggregate-row-by-2 c = search needs
+row-2-requires : tie.Need-row-2-requires
+row-2-requires c κs =
+    let s = c .before .before .before .before in
+    subst (λ m. CoreReady m (s .args .core .now) (s .args .row .now)) (c .before .match .keys3) (s .pre)
 
-row-by-requires-2 : tie.Need-row-by-requires-2
-unfolding orderTable table1
-row-by-requires-2 c κs =
-    let s = c .before .before .before .before .before in
-    row-asked _ _ (s .pre .0) (ap orderTable (c .before .before .match .keys2)) (s .args .core .now) (s .args .row .now) (s .pre .1) (s .pre .2)
+row-3-requires : tie.Need-row-3-requires
+row-3-requires c κs =
+    let s = c .before .before .before .before in
+    subst (λ m. CoreReady m (s .args .core .now) (s .args .row .now)) (c .before .match .keys4) (s .pre)
 
-slice-aggregate-row-by-3 : tie.Need-slice-aggregate-row-by-3
-slice-aggregate-row-by-3 c = search needs
-
-row-by-requires-3 : tie.Need-row-by-requires-3
-unfolding orderTable table2
-row-by-requires-3 c κs =
-    let s = c .before .before .before .before .before in
-    row-asked _ _ (s .pre .0) (ap orderTable (c .before .before .match .keys3)) (s .args .core .now) (s .args .row .now) (s .pre .1) (s .pre .2)
-
-slice-aggregate-row-by-4 : tie.Need-slice-aggregate-row-by-4
-slice-aggregate-row-by-4 c = search needs
-
-row-by-requires-4 : tie.Need-row-by-requires-4
-unfolding orderTable table3
-row-by-requires-4 c κs =
-    let s = c .before .before .before .before .before in
-    row-asked _ _ (s .pre .0) (ap orderTable (c .before .before .match .keys4)) (s .args .core .now) (s .args .row .now) (s .pre .1) (s .pre .2)
-
-slice-aggregate-row-by-5 : tie.Need-slice-aggregate-row-by-5
-slice-aggregate-row-by-5 c = search needs
-
-row-by-requires-5 : tie.Need-row-by-requires-5
-unfolding orderTable table4
-row-by-requires-5 c κs =
-    let s = c .before .before .before .before .before in
-    row-asked _ _ (s .pre .0) (ap orderTable (last-mode _ (s .pre .0) (c .before .before .match .rest .0 .0 .0 .1) (c .before .before .match .rest .0 .0 .1) (c .before .before .match .rest .0 .1) (c .before .before .match .rest .1))) (s .args .core .now) (s .args .row .now) (s .pre .1) (s .pre .2)
+row-4-requires : tie.Need-row-4-requires
+row-4-requires c κs =
+    let s = c .before .before .before .before in
+    subst (λ m. CoreReady m (s .args .core .now) (s .args .row .now)) (last-mode _ (s .pre .has-order) (c .before .match .rest .0 .0 .0 .1) (c .before .match .rest .0 .0 .1) (c .before .match .rest .0 .1) (c .before .match .rest .1)) (s .pre)
 
 same-length : tie.Need-same-length
 same-length c = search needs
 
 returns : tie.Need-returns
-unfolding orderTable table0
 returns c =
-    let s = c .before .before .before .before .before .before .before .before in
-    row-put _ _ (s .pre .0) (ap orderTable (c .before .before .before .before .before .match .keys1)) (s .args .core .now) (s .args .row .now) _ (c .before .before .row-by .ensures)
+    let s = c .before .before .before .before .before .before .before in
+    c .before .before .row-0 .ensures ∙ ap (λ m. withRow m (s .args .core .now) (s .args .row .now)) (sym (c .before .before .before .before .match .keys1))
 
 same-length-2 : tie.Need-same-length-2
 same-length-2 c = search needs
 
 returns-2 : tie.Need-returns-2
-unfolding orderTable table1
 returns-2 c =
-    let s = c .before .before .before .before .before .before .before .before in
-    row-put _ _ (s .pre .0) (ap orderTable (c .before .before .before .before .before .match .keys2)) (s .args .core .now) (s .args .row .now) _ (c .before .before .row-by2 .ensures)
+    let s = c .before .before .before .before .before .before .before in
+    c .before .before .row-1 .ensures ∙ ap (λ m. withRow m (s .args .core .now) (s .args .row .now)) (sym (c .before .before .before .before .match .keys2))
 
 same-length-3 : tie.Need-same-length-3
 same-length-3 c = search needs
 
 returns-3 : tie.Need-returns-3
-unfolding orderTable table2
 returns-3 c =
-    let s = c .before .before .before .before .before .before .before .before in
-    row-put _ _ (s .pre .0) (ap orderTable (c .before .before .before .before .before .match .keys3)) (s .args .core .now) (s .args .row .now) _ (c .before .before .row-by3 .ensures)
+    let s = c .before .before .before .before .before .before .before in
+    c .before .before .row-2 .ensures ∙ ap (λ m. withRow m (s .args .core .now) (s .args .row .now)) (sym (c .before .before .before .before .match .keys3))
 
 same-length-4 : tie.Need-same-length-4
 same-length-4 c = search needs
 
 returns-4 : tie.Need-returns-4
-unfolding orderTable table3
 returns-4 c =
-    let s = c .before .before .before .before .before .before .before .before in
-    row-put _ _ (s .pre .0) (ap orderTable (c .before .before .before .before .before .match .keys4)) (s .args .core .now) (s .args .row .now) _ (c .before .before .row-by4 .ensures)
+    let s = c .before .before .before .before .before .before .before in
+    c .before .before .row-3 .ensures ∙ ap (λ m. withRow m (s .args .core .now) (s .args .row .now)) (sym (c .before .before .before .before .match .keys4))
 
 same-length-5 : tie.Need-same-length-5
 same-length-5 c = search needs
 
 returns-5 : tie.Need-returns-5
-unfolding orderTable table4
 returns-5 c =
-    let s = c .before .before .before .before .before .before .before .before in
-    row-put _ _ (s .pre .0) (ap orderTable (last-mode _ (s .pre .0) (c .before .before .before .before .before .match .rest .0 .0 .0 .1) (c .before .before .before .before .before .match .rest .0 .0 .1) (c .before .before .before .before .before .match .rest .0 .1) (c .before .before .before .before .before .match .rest .1))) (s .args .core .now) (s .args .row .now) _ (c .before .before .row-by5 .ensures)
+    let s = c .before .before .before .before .before .before .before in
+    c .before .before .row-4 .ensures ∙ ap (λ m. withRow m (s .args .core .now) (s .args .row .now)) (sym (last-mode _ (s .pre .has-order) (c .before .before .before .before .match .rest .0 .0 .0 .1) (c .before .before .before .before .match .rest .0 .0 .1) (c .before .before .before .before .match .rest .0 .1) (c .before .before .before .before .match .rest .1)))
 
 pub put-row-spec : {M : Type 1} → statement M
 put-row-spec =
     tie.close
     (tie.spec
-    slice-aggregate-row-by
-    row-by-requires
-    slice-aggregate-row-by-2
-    row-by-requires-2
-    slice-aggregate-row-by-3
-    row-by-requires-3
-    slice-aggregate-row-by-4
-    row-by-requires-4
-    slice-aggregate-row-by-5
-    row-by-requires-5
+    row-0-requires
+    row-1-requires
+    row-2-requires
+    row-3-requires
+    row-4-requires
     same-length
     returns
     same-length-2
