@@ -85,7 +85,7 @@ getD-numbersFrom n (suc k) (suc i) h = getD-numbersFrom (suc n) k i (omega arith
 
 pub length-ordered : (table : List ℕ) (s : List Bool) → length (ordered table s) ≡ length table
 unfolding ordered
-length-ordered table s = length-map table (λ n. codecBit s (n + 1))
+length-ordered table s = length-map table _
 
 pub getD-ordered : (table : List ℕ) (s : List Bool) (j : ℕ) → j < length table → getD (ordered table s) j false ≡ getD s (getD table j 0) false
 unfolding ordered
@@ -94,7 +94,7 @@ getD-ordered table s j h =
 
 pub length-unordered : (table : List ℕ) (d : List Bool) → length (unordered table d) ≡ length table
 unfolding unordered
-length-unordered table d = length-map (numbersFrom 0 (length table)) (λ n. getD d (placeOf n table) false) ∙ length-numbersFrom 0 (length table)
+length-unordered table d = length-map (numbersFrom 0 (length table)) _ ∙ length-numbersFrom 0 (length table)
 
 pub getD-unordered : (table : List ℕ) (d : List Bool) (n : ℕ) → n < length table → getD (unordered table d) n false ≡ getD d (placeOf n table) false
 unfolding unordered
