@@ -105,10 +105,11 @@ fn count_frames(s: &[u8]) -> Reported
 pub fn report_recording(s: &[u8]) -> Reported
     ensures { λ a. ⌜ reportedOf a ≡ reportCall (now (s .entry)) ⌝ }
 {
+    let headed = has_file_header(s);
     if REPORT_LIMIT < s.len() {
         return Reported::Refused(Refusal::TooLong, 0, 0);
     }
-    if !has_file_header(s) {
+    if !headed {
         return Reported::Refused(Refusal::StorageHeader, 0, 0);
     }
     count_frames(s)
