@@ -43,8 +43,8 @@ pub fn header_octets(f: Format) -> usize
     }
 }
 
-// The recording begins with the file header of storage format.
-fn has_file_header(s: &[u8]) -> bool
+// The recording begins with the file header of storage format. `pub` for the report, which is over that format only.
+pub fn has_file_header(s: &[u8]) -> bool
     ensures { λ r. ⌜ r ≡ sameOctets (take 9 (now (s .entry))) (fileHeader storage) ⌝ }
 {
     if s.len() < 9 {

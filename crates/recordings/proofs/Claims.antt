@@ -36,7 +36,7 @@ octets-same a b e = subst (λ c. sameOctets a c ≡ true) e (reflexive a)
 
 -- ---- a chain of two tests
 
-unless-done : {A : Type 0} (n : ℕ) (b : Bool) (w : Placed A) (a : A) → unlessAt n b w ≡ done a → (b ≡ true) × (w ≡ done a)
+pub unless-done : {A : Type 0} (n : ℕ) (b : Bool) (w : Placed A) (a : A) → unlessAt n b w ≡ done a → (b ≡ true) × (w ≡ done a)
 unless-done n true w a h = (refl, h)
 unless-done n false w a h = not-done n 0 0 a h
 

@@ -4,6 +4,7 @@ ghost use Rattle.recordings.specs.Recordings.{readRecording};
 ghost use Rattle.recordings.specs.Conversion.{convertCall};
 ghost use Rattle.recordings.specs.Claims.{ReadsRecordings};
 ghost use Rattle.recordings.specs.Demand3.{Demand3, firstOnly};
+ghost use Rattle.recordings.specs.Report.{reportCall, AddsUp};
 
 // Does nothing. Its contract: octets are read as frames exactly where they are the frames' recording, and a refusal names the first
 // refused frame.
@@ -14,4 +15,9 @@ pub fn reader_claim()
 // Does nothing. Its contract: demand 3, and that the converter which copies the first frame and counts the others does not meet it.
 pub fn demand_three_claim()
     ensures { λ _. ⌜ Demand3 convertCall × (Demand3 firstOnly → ⊥) ⌝ }
+{}
+
+// Does nothing. Its contract: in a report the four classes add up to the frames.
+pub fn report_claim()
+    ensures { λ _. ⌜ AddsUp reportCall ⌝ }
 {}

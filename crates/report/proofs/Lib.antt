@@ -1,0 +1,2 @@
+pub mod CountingLaws
+pub mod CallLaws
