@@ -1,5 +1,5 @@
 -- The answers of level two's own calls as numbers. Every field that is not named for an answer is 0, and at a refusal every field but its
--- number is. A refusal of these calls carries frame and octet 0, since they are outside a recording (document 01, "Order").
+-- number and place is. A refusal of a call for one frame carries frame and octet 0 (document 01, "Order").
 use mathlib.Core.Path.{_≡_}
 use mathlib.Core.List.{List}
 use Prim.Native.Nat.{ℕ}
@@ -7,8 +7,11 @@ use Rattle.definitions.specs.Outcome.{Outcome, refused, ok}
 use Rattle.definitions.specs.Frames.{Frame}
 use Rattle.definitions.specs.Reading.{coreAfter}
 use Rattle.definitions.specs.Reception.{SpeechClass, speech-good, speech-bad, SidClass, sid-first, sid-update, sid-bad, Reception, speech, sid, speech-lost, no-data}
+use Rattle.recordings.specs.Placed.{Placed, refusedAt, done}
+use Rattle.recordings.specs.Report.{Report}
 use Rattle.level_two.specs.declared.FrameAnswer.{FrameAnswer}
 use Rattle.level_two.specs.declared.ClassAnswer.{ClassAnswer}
+use Rattle.level_two.specs.declared.ReportAnswer.{ReportAnswer}
 
 -- the fields, and the octets of the packed core
 abbrev pub frameNumbers : Outcome (Frame × ℕ) → FrameAnswer
@@ -56,3 +59,28 @@ classNumbers (ok c) = record { refusal = 0; frame = 0; octet = 0; class = classN
 pub record FlatFrame (o : Outcome (Frame × ℕ)) (d₀ d : List ℕ) (r : FrameAnswer) : Type 0 where
   pub answer : r ≡ frameNumbers o
   pub buffer : d ≡ coreAfter o d₀
+
+-- the report, by document 01's words
+abbrev pub reportNumbers : Placed Report → ReportAnswer
+reportNumbers (refusedAt n k at) = record {
+  refusal = n;
+  frame = k;
+  octet = at;
+  octets = 0;
+  frames = 0;
+  speech = 0;
+  comfort = 0;
+  lost = 0;
+  empty = 0;
+}
+reportNumbers (done r) = record {
+  refusal = 0;
+  frame = 0;
+  octet = 0;
+  octets = r .octets;
+  frames = r .frames;
+  speech = r .speech;
+  comfort = r .sid;
+  lost = r .speech-lost;
+  empty = r .no-data;
+}

@@ -8,8 +8,9 @@ ghost use Rattle.definitions.specs.Order.{toCoreCall, toRowCall};
 ghost use Rattle.definitions.specs.Reception.{receptionClass};
 ghost use Rattle.recordings.specs.Recordings.{validateCall};
 ghost use Rattle.recordings.specs.Conversion.{convertCall, lengthCall};
+ghost use Rattle.recordings.specs.Report.{reportCall};
 ghost use Rattle.answers.specs.Flat.{placedNumbers, FlatConversion, FlatOutput};
-ghost use Rattle.level_two.specs.Flat.{FlatFrame, speechNumber, sidNumber, classNumber, classNumbers};
+ghost use Rattle.level_two.specs.Flat.{FlatFrame, speechNumber, sidNumber, classNumber, classNumbers, reportNumbers};
 ghost use Rattle.reception.specs.Classes.{speechOf, sidOf, receptionOf};
 use answers::Answer;
 use answers::built_answer;
@@ -19,6 +20,7 @@ use reception::Classified;
 use reception::Reception;
 use reception::SidClass;
 use reception::SpeechClass;
+use report::Reported;
 
 #[repr(C)]
 pub struct FrameAnswer {
@@ -38,6 +40,19 @@ pub struct ClassAnswer {
     pub frame: u64,
     pub octet: u64,
     pub class: u64,
+}
+
+#[repr(C)]
+pub struct ReportAnswer {
+    pub refusal: u64,
+    pub frame: u64,
+    pub octet: u64,
+    pub octets: u64,
+    pub frames: u64,
+    pub speech: u64,
+    pub comfort: u64,
+    pub lost: u64,
+    pub empty: u64,
 }
 
 #[no_mangle]
@@ -193,6 +208,36 @@ pub extern "C" fn amrwb_class(frame_type: u64, quality: u64, sti: u64) -> ClassA
             frame: 0,
             octet: 0,
             class: 0,
+        },
+    }
+}
+
+#[no_mangle]
+pub extern "C" fn amrwb_report(rec: &[u8]) -> ReportAnswer
+    ensures { λ r. ⌜ r ≡ reportNumbers (reportCall (now (rec .entry))) ⌝ }
+{
+    match report::report_recording(rec) {
+        Reported::Counts(c) => ReportAnswer {
+            refusal: 0,
+            frame: 0,
+            octet: 0,
+            octets: c.octets as u64,
+            frames: c.frames as u64,
+            speech: c.speech as u64,
+            comfort: c.sid as u64,
+            lost: c.speech_lost as u64,
+            empty: c.no_data as u64,
+        },
+        Reported::Refused(e, k, at) => ReportAnswer {
+            refusal: frame::refusal_number(e),
+            frame: k as u64,
+            octet: at as u64,
+            octets: 0,
+            frames: 0,
+            speech: 0,
+            comfort: 0,
+            lost: 0,
+            empty: 0,
         },
     }
 }
