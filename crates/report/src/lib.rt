@@ -64,7 +64,7 @@ fn counted(c: Report, class: Reception) -> Report
     r
 }
 
-// The refusal of frame `k`, which begins at octet `at`, handed on.
+// The refusal of frame `k`, which begins at octet `at`, handed on. `r` is a refusal wherever this is called.
 fn handed_on(r: Reading, k: usize, at: usize) -> Reported
     ensures { λ a. ⌜ ((e : Refusal) → r ≡ reading.Refused e → reportedOf a ≡ refusedAt (numberOf e) k at) ⌝ }
 {

@@ -1,2 +1,3 @@
 pub mod DigitLaws
 pub mod TextLaws
+pub mod PartLaws

@@ -1,9 +1,9 @@
 -- A text grows in front of a buffer. Assumes nothing.
 use mathlib.Core.Path.{_≡_, sym, ap, _∙_}
 use mathlib.Core.List.{List, [], _∷_, _++_, append-nil, append-assoc}
-use Prim.Native.Nat.{ℕ, suc, _+_, _-_, _<_, _≤_}
+use Prim.Native.Nat.{ℕ, suc, _+_, _<_, _≤_}
 use native.Mathlib.Omega.{arith}
-use lib.ListN.{length, take, drop, getD, set, length-take, length-drop}
+use lib.ListN.{length, take, getD, set}
 use lib.Seq.{take-all, take-suc, take-suc-set}
 use Rattle.report_program.specs.Text.{decimal, line}
 
@@ -34,8 +34,3 @@ line-whole front label number n e =
     ap (λ d. front ++ label ++ d ++ (10 ∷ [])) e
     ∙ ap (λ t. t ++ (10 ∷ [])) (append-assoc front label (decimal n))
     ∙ append-assoc front (label ++ decimal n) (10 ∷ [])
-
--- ---- a part from n to the end
-
-pub part-room : (n k : ℕ) (b : List ℕ) → n ≤ length b → k ≤ length (take (length b - n) (drop n b)) → n + k ≤ length b
-part-room n k b h l = omega (arith, length-take (length b - n) (drop n b), length-drop n b)

@@ -42,6 +42,7 @@ fn read_input(buf: &mut [u8]) -> Input
     Input::Octets(n)
 }
 
+// A program has no exit status to set, so a message on standard error is what tells of a failure.
 fn main() {
     let mut buf = input_buffer();
     let read = read_input(&mut buf);

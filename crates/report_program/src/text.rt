@@ -27,7 +27,7 @@ fn put(s: &[u8], out: &mut [u8], at: usize) -> usize
     at + i
 }
 
-// Puts a line behind the first `at` octets of the text.
+// Puts a line behind the first `at` octets of the text: a number has at most 20 digits, and a line feed follows.
 fn put_line(label: &[u8], n: u64, out: &mut [u8], at: usize) -> usize
     requires { ⌜ at + length (now label) + 21 ≤ length (now out) ⌝ }
     ensures { λ r. ⌜ (r ≤ at + length (now (label .entry)) + 21) × (take r (now (out .exit)) ≡ take at (now (out .entry)) ++ line (now (label .entry)) n) ⌝ }

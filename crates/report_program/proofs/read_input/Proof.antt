@@ -6,7 +6,7 @@ use native.Mathlib.Omega.{arith}
 use borrow.Author.Needs.{needs}
 use lib.ListN.{length}
 use borrow.Rule.Slice.PartMut.{putMid, same-len-mid}
-use Rattle.report_program.proofs.TextLaws.{part-room}
+use Rattle.report_program.proofs.PartLaws.{part-room}
 use Rattle.report_program.proofs.read_input.Statement.{statement}
 use Rattle.report_program.proofs.read_input.Tie as tie
 
