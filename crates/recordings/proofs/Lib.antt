@@ -5,4 +5,5 @@ pub mod Returning
 pub mod Trips
 pub mod Apart
 pub mod Demand3
+pub mod Viewer
 mod Wrong
