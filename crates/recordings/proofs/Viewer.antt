@@ -8,12 +8,12 @@ use native.Mathlib.Omega.{arith}
 use lib.Dec.{eqb, leb}
 use lib.ListN.{length, take, drop, replicate, length-replicate, length-append, take-append-drop}
 use lib.Seq.{drop-at, drop-drop, drop-length, take-all}
-use borrow.Author.Tests.{le-leb, eq-eqb, ne-eqb, leb-true, leb-false}
+use borrow.Author.Tests.{le-leb, lt-leb, eq-eqb, ne-eqb, leb-true, leb-false}
 use Rattle.bits.specs.Bits.{Octets, bits}
 use Rattle.bits.proofs.Tests.{both}
 use Rattle.definitions.specs.Outcome.{Outcome, refused, ok, unless}
 use Rattle.definitions.specs.Frames.{Format, Frame, layout, octets, known, typeIn, frameIn, spareClear, fieldsGood, crcGood}
-use Rattle.definitions.specs.Reading.{readWith, readFrame}
+use Rattle.definitions.specs.Reading.{readWith, readFrame, formatNumbered}
 use Rattle.definitions.specs.Claims.{Valid}
 use Rattle.definitions.proofs.Tables.{sized}
 use Rattle.definitions.proofs.Frames.{never, length-layout, read-layout}
@@ -22,7 +22,7 @@ use Rattle.recordings.specs.Recordings.{limit, fileHeader, headed, befor
 use Rattle.recordings.specs.Claims.{Every, none, first, StopsAt}
 use Rattle.recordings.specs.Demand3.{formatNumber}
 use Rattle.recordings.specs.Viewer.{View, shows, end, openCall, nextCall, Handed, frame, the-end, refusal, handed, moved, inTurn, Hands, ViewsRecordings}
-use Rattle.recordings.proofs.Scan.{not-refused, before-refused}
+use Rattle.recordings.proofs.Scan.{not-done, not-refused, before-refused}
 use Rattle.recordings.proofs.Claims.{unless-done, unless-refused, read-recording, is-read}
 use Rattle.recordings.proofs.Trips.{format-numbered}
 
@@ -37,32 +37,57 @@ take-repeat l (suc m) i j (a ∷ front) p q = ap (λ t. a ∷ t) (take-repeat l 
 
 -- ---- one call
 
-module _ (f : Format) (s : List ℕ) where
-  abbrev next : ℕ × ℕ → Placed View
-  next p = nextCall (formatNumber f) (p .1) (p .0) s
+pub next-unknown : (format : ℕ) (s : List ℕ) (k at : ℕ) → formatNumbered format ≡ refused 11 → nextCall format at k s ≡ refusedAt 11 0 0
+unfolding nextCall
+next-unknown format s k at e =
+    ap (λ n. placed n 0 0 (λ f. unlessAt 11 (leb at (length s) && leb k at) (cond (eqb at (length s)) (done end) (placed (readFrame f (drop at s)) k at (λ y. done (shows (y .0) (suc k) (at + y .1))))))) e
+
+-- once the format is known
+module _ (format : ℕ) (f : Format) (s : List ℕ) (found : formatNumbered format ≡ ok f) where
+  -- the end, or the frame
+  abbrev after : (k at : ℕ) → Bool → Outcome (Frame × ℕ) → Placed View
+  after k at b o = cond b (done end) (placed o k at (λ y. done (shows (y .0) (suc k) (at + y .1))))
+
+  next-is : (k at : ℕ) → nextCall format at k s ≡ unlessAt 11 (leb at (length s) && leb k at) (after k at (eqb at (length s)) (readFrame f (drop at s)))
+  unfolding nextCall
+  next-is k at = ap (λ n. placed n 0 0 (λ g. unlessAt 11 (leb at (length s) && leb k at) (after k at (eqb at (length s)) (readFrame g (drop at s))))) found
 
   -- at a place that is judged
-  next-is : (k at : ℕ) → at ≤ length s → k ≤ at
-      → nextCall (formatNumber f) at k s
-      ≡ cond (eqb at (length s)) (done end) (placed (readFrame f (drop at s)) k at (λ y. done (shows (y .0) (suc k) (at + y .1))))
-  unfolding nextCall
-  next-is k at l h =
-      let w : Format → Placed View = λ f. cond (eqb at (length s)) (done end) (placed (readFrame f (drop at s)) k at (λ y. done (shows (y .0) (suc k) (at + y .1)))) in
-      ap (λ n. placed n 0 0 (λ g. unlessAt 11 (leb at (length s) && leb k at) (w g))) (format-numbered f)
-      ∙ ap (λ b. unlessAt 11 b (w f)) (both _ _ (le-leb _ _ l) (le-leb _ _ h))
+  next-in : (k at : ℕ) → at ≤ length s → k ≤ at → nextCall format at k s ≡ after k at (eqb at (length s)) (readFrame f (drop at s))
+  next-in k at l h =
+      next-is k at ∙ ap (λ b. unlessAt 11 b (after k at (eqb at (length s)) (readFrame f (drop at s)))) (both _ _ (le-leb _ _ l) (le-leb _ _ h))
 
-  next-end : (k at : ℕ) → at ≡ length s → k ≤ at → nextCall (formatNumber f) at k s ≡ done end
-  next-end k at l h =
-      next-is k at (omega arith) h
-      ∙ ap (λ b. cond b (done end) (placed (readFrame f (drop at s)) k at (λ y. done (shows (y .0) (suc k) (at + y .1))))) (eq-eqb _ _ l)
+  pub next-past : (k at : ℕ) → length s < at → nextCall format at k s ≡ refusedAt 11 0 0
+  next-past k at l = next-is k at ∙ ap (λ b. unlessAt 11 (b && leb k at) (after k at (eqb at (length s)) (readFrame f (drop at s)))) (lt-leb _ _ l)
 
-  next-frame : (k at : ℕ) (o : Outcome (Frame × ℕ)) → at < length s → k ≤ at → readFrame f (drop at s) ≡ o
-      → nextCall (formatNumber f) at k s ≡ placed o k at (λ y. done (shows (y .0) (suc k) (at + y .1)))
-  next-frame k at o l h e =
-      next-is k at (omega arith) h
-      ∙ ap₂ (λ b r. cond b (done end) (placed r k at (λ y. done (shows (y .0) (suc k) (at + y .1))))) (ne-eqb at (length s) (λ q. omega arith)) e
+  pub next-above : (k at : ℕ) → at ≤ length s → at < k → nextCall format at k s ≡ refusedAt 11 0 0
+  next-above k at l h =
+      next-is k at ∙ ap₂ (λ a b. unlessAt 11 (a && b) (after k at (eqb at (length s)) (readFrame f (drop at s)))) (le-leb _ _ l) (lt-leb _ _ h)
+
+  pub next-end : (k at : ℕ) → at ≡ length s → k ≤ at → nextCall format at k s ≡ done end
+  next-end k at l h = next-in k at (omega arith) h ∙ ap (λ b. after k at b (readFrame f (drop at s))) (eq-eqb _ _ l)
+
+  pub next-frame : (k at : ℕ) (o : Outcome (Frame × ℕ)) → at < length s → k ≤ at → readFrame f (drop at s) ≡ o
+      → nextCall format at k s ≡ placed o k at (λ y. done (shows (y .0) (suc k) (at + y .1)))
+  next-frame k at o l h e = next-in k at (omega arith) h ∙ ap₂ (after k at) (ne-eqb at (length s) (λ q. omega arith)) e
+
+  -- a frame that is shown was read at the place
+  pub next-shown : (k at : ℕ) (x : Frame) (j p : ℕ) → nextCall format at k s ≡ done (shows x j p)
+      → (n : ℕ) × (at ≤ length s) × (readFrame f (drop at s) ≡ ok (x, n))
+  next-shown k at x j p h = go (leb at (length s)) (leb k at) (eqb at (length s)) (readFrame f (drop at s)) refl refl (sym (next-is k at) ∙ h)
+    where
+      go : (a b c : Bool) (o : Outcome (Frame × ℕ)) → leb at (length s) ≡ a → readFrame f (drop at s) ≡ o → unlessAt 11 (a && b) (after k at c o) ≡ done (shows x j p)
+          → (n : ℕ) × (at ≤ length s) × (readFrame f (drop at s) ≡ ok (x, n))
+      go false b c o e r w = not-done 11 0 0 (shows x j p) w
+      go true false c o e r w = not-done 11 0 0 (shows x j p) w
+      go true true true o e r w = absurd (let z : _≡_ {A = ℕ} 0 1 = cc in omega arith)
+      go true true false (refused n) e r w = not-done n k at (shows x j p) w
+      go true true false (ok y) e r w = (y .1, leb-true _ _ e, r ∙ ap (λ x. ok (x, y .1)) (let q : y .0 ≡ x = cc in q))
 
 -- ---- many calls
+
+abbrev next : Format → List ℕ → ℕ × ℕ → Placed View
+next f s p = nextCall (formatNumber f) (p .1) (p .0) s
 
 -- a viewer that stays where it is hands out the same for ever
 stays : (next : ℕ × ℕ → Placed View) (place : ℕ × ℕ) (last : Handed) → handed (next place) ≡ last → moved (next place) place ≡ place
@@ -87,7 +112,7 @@ module _ (f : Format) (s : List ℕ) (last : Handed) (j p : ℕ) (within : p ≤
       let long = length-layout f x v in
       let front : drop at s ≡ layout f x ++ (layouts f xs ++ drop p s) = e ∙ append-assoc (layout f x) (layouts f xs) (drop p s) in
       let r : readFrame f (drop at s) ≡ ok (x, n) = ap (readFrame f) front ∙ read-layout false f x (layouts f xs ++ drop p s) v refl in
-      let w : next f s (k, at) ≡ done (shows x (suc k) (at + n)) = next-frame f s k at (ok (x, n)) (omega (arith, size, long, one)) h r in
+      let w : next f s (k, at) ≡ done (shows x (suc k) (at + n)) = next-frame (formatNumber f) f s (format-numbered f) k at (ok (x, n)) (omega (arith, size, long, one)) h r in
       let d : drop (at + n) s ≡ layouts f xs ++ drop p s =
       sym (drop-drop n at s) ∙ ap (drop n) front ∙ drop-at (layout f x) (layouts f xs ++ drop p s) n long in
       ap (λ w. handed w ∷ inTurn (next f s) m (moved w (k, at))) w
@@ -122,7 +147,7 @@ valid f s xs o h =
     let size : n + length (layouts f xs) ≡ length s = sym (length-append (fileHeader f) (layouts f xs)) ∙ sym (ap length (r .laid)) in
     let d : drop n s ≡ layouts f xs ++ drop (length s) s =
     ap (drop n) (r .laid) ∙ drop-at (fileHeader f) (layouts f xs) n refl ∙ sym (append-nil (layouts f xs)) ∙ ap (λ l. layouts f xs ++ l) (sym (drop-length s)) in
-    let w = next-end f s (length xs) (length s) refl (omega (arith, few f xs (r .valid), size)) in
+    let w = next-end (formatNumber f) f s (format-numbered f) (length xs) (length s) refl (omega (arith, few f xs (r .valid), size)) in
     record {
       place = (0, n);
       opens = opened f s (a .0) (b .0);
@@ -153,7 +178,7 @@ stopped f s n k at o l h p =
     let e : s ≡ fileHeader f ++ (layouts f (p .xs) ++ drop at s) =
     sym (take-append-drop at s) ∙ ap (λ l. l ++ drop at s) (p .laid) ∙ append-assoc (fileHeader f) (layouts f (p .xs)) (drop at s) in
     let d : drop m s ≡ layouts f (p .xs) ++ drop at s = ap (drop m) e ∙ drop-at (fileHeader f) (layouts f (p .xs) ++ drop at s) m refl in
-    let w = next-frame f s k at (refused n) some (omega (arith, few f (p .xs) (p .valid), size, p .octet, p .number)) (p .refusal) in
+    let w = next-frame (formatNumber f) f s (format-numbered f) k at (refused n) some (omega (arith, few f (p .xs) (p .valid), size, p .octet, p .number)) (p .refusal) in
     record {
       place = (0, m);
       opens = opened f s (a .0) (b .0);
