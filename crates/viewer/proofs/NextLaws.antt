@@ -1,22 +1,20 @@
 -- One call of a viewer: each step of the code hands on what the definition's next step starts from. Assumes nothing.
-use mathlib.Core.Path.{_≡_, refl, sym, ap, ap₂, _∙_, subst}
-use mathlib.Core.Bool.{Bool, true, false, _&&_}
+use mathlib.Core.Path.{_≡_, refl, sym, ap, _∙_, subst}
+use mathlib.Core.Bool.{Bool, true, false}
 use mathlib.Core.List.{List}
 use Prim.Native.Nat.{ℕ, suc, _+_, _-_, _<_, _≤_}
 use native.Mathlib.Omega.{arith}
 use lib.ListN.{length, take, drop, length-drop}
 use lib.Seq.{take-all}
-use lib.Dec.{eqb, leb}
-use borrow.Author.Tests.{leb-true}
-use Rattle.bits.specs.Bits.{bits, pack}
-use Rattle.bits.proofs.Tests.{and-left}
-use Rattle.definitions.specs.Outcome.{Outcome, refused, ok, unless}
+use lib.Dec.{leb}
+use Rattle.bits.specs.Bits.{bits}
+use Rattle.definitions.specs.Outcome.{refused, ok, unless}
 use Rattle.definitions.specs.Frames.{Format, Frame, known, octets, coreIn, coreOctets}
-use Rattle.definitions.specs.Reading.{readFrame, formatNumbered, intoBuffer, coreAfter, bufferCore, overwritten}
+use Rattle.definitions.specs.Reading.{readFrame, formatNumbered, intoBuffer, coreAfter, bufferCore}
 use Rattle.definitions.proofs.Frames.{never, read-known}
-use Rattle.recordings.specs.Placed.{Placed, refusedAt, done, placed, unlessAt, andThenAt}
+use Rattle.recordings.specs.Placed.{Placed, refusedAt, done, placed, andThenAt}
 use Rattle.recordings.specs.Viewer.{View, shows, end, nextCall, intoRoom, viewCall, viewAfter, moved}
-use Rattle.recordings.proofs.Scan.{not-done, not-refused}
+use Rattle.recordings.proofs.Scan.{not-done}
 use Rattle.recordings.proofs.Viewer.{next-unknown, next-end, next-frame, next-shown}
 use Rattle.frame.specs.Answers.{numberOf, frameWith, readingOf}
 use Rattle.frame.specs.declared.FrameHeader.{FrameHeader}
@@ -24,7 +22,7 @@ use Rattle.frame.specs.declared.Refusal.{Refusal}
 use Rattle.frame.specs.declared.Reading.{Reading}
 use Rattle.frame.specs.declared.Reading.the-variants as reading
 use Rattle.frame_reader.specs.Buffer.{IntoBuffer}
-use Rattle.viewer.specs.Answers.{viewOf, shownOf, coreIf, coreAt, Views, ViewsInto}
+use Rattle.viewer.specs.Answers.{viewOf, shownOf, coreIf, coreAt, Views, Nexts, ViewsInto}
 use Rattle.viewer.specs.declared.Shown.{Shown}
 use Rattle.viewer.specs.declared.Shown.the-variants as shown
 use Rattle.viewer.specs.declared.Viewed.{Viewed}
@@ -43,13 +41,13 @@ module _ (format offset number : ℕ) (s : List ℕ) where
   views-as core o a e v = subst (λ o. Views core o (number, offset) a) (sym e) v
 
   module _ (f : Format) (found : formatNumbered format ≡ ok f) where
-    pub end-next : offset ≡ length s → number ≤ offset → Views (coreAt format offset s) called (number, offset) (viewed shown.End number offset)
+    pub end-next : offset ≡ length s → number ≤ offset → Nexts format offset number s (viewed shown.End number offset)
     end-next l h = views-as _ (done end) _ (next-end format f s found number offset l h) (record { answer = refl; behind = refl })
 
     module _ (l : offset < length s) (h : number ≤ offset) (r : Reading)
         (er : readingOf (λ t. coreIn f t (bits (drop offset s))) r ≡ readFrame f (drop offset s)) where
       pub refused-next : (e : Refusal) → r ≡ reading.Refused e
-          → Views (coreAt format offset s) called (number, offset) (viewed (shown.Refused e number offset) number offset)
+          → Nexts format offset number s (viewed (shown.Refused e number offset) number offset)
       refused-next e ee =
           views-as _ (refusedAt (numberOf e) number offset) _
           (next-frame format f s found number offset (refused (numberOf e)) l h (sym er ∙ ap (readingOf (λ t. coreIn f t (bits (drop offset s)))) ee))
@@ -62,7 +60,7 @@ module _ (format offset number : ℕ) (s : List ℕ) where
         pub next-within : offset + n ≤ length s
         next-within = let k = read-known false f (drop offset s) _ n there in omega (arith, k .1, k .2, length-drop offset s)
 
-        pub frame-next : Views (coreAt format offset s) called (number, offset) (viewed (shown.Frame x) (number + 1) (offset + n))
+        pub frame-next : Nexts format offset number s (viewed (shown.Frame x) (number + 1) (offset + n))
         frame-next =
             let core = coreIn f (x .«frame_type») (bits (drop offset s)) in
             let one : suc number ≡ number + 1 = omega arith in
@@ -106,7 +104,7 @@ into-room y room z m = go (leb (coreOctets (y .type)) room)
     go true h = (refl, (let e : _≡_ {A = Frame × ℕ} (y, coreOctets (y .type)) (z, m) = cc in sym (ap (λ (q : Frame × ℕ). q .0) e)))
     go false h = never 10 (z, m) h
 
-module _ (format offset number : ℕ) (s : List ℕ) (a : Viewed) (v : Views (coreAt format offset s) (nextCall format offset number s) (number, offset) a) where
+module _ (format offset number : ℕ) (s : List ℕ) (a : Viewed) (v : Nexts format offset number s a) where
   pub no-frame : (room : ℕ) (d : List ℕ) → ((x : FrameHeader) → a .shown ≡ shown.Frame x → ⊥) → ViewsInto (viewCall format offset number s room) (number, offset) d d a
   unfolding viewCall
   no-frame room d none = handed-on (coreAt format offset s) (nextCall format offset number s) (number, offset) room d a none v
@@ -129,17 +127,25 @@ module _ (format offset number : ℕ) (s : List ℕ) (a : Viewed) (v : Views (co
       pub offset-within : offset ≤ length s
       offset-within = next-shown format f s found number offset y (a .number) (a .offset) shown-frame .1
 
-      pub frame-known : (known (x .«frame_type») ≡ true) × (octets f (x .«frame_type») ≤ length (drop offset s))
+      -- the code takes the part of the recording up to the end
+      part-is : take (length s - offset) (drop offset s) ≡ drop offset s
+      part-is = take-all (length s - offset) (drop offset s) (omega (arith, length-drop offset s))
+
+      pub frame-known : (known (x .«frame_type») ≡ true) × (octets f (x .«frame_type») ≤ length (take (length s - offset) (drop offset s)))
       frame-known =
           let w = next-shown format f s found number offset y (a .number) (a .offset) shown-frame in
           let k = read-known false f (drop offset s) y (w .0) (w .2) in
-          (k .0, k .1)
+          (k .0, subst (λ l. octets f (x .«frame_type») ≤ length l) (sym part-is) (k .1))
 
       view-is : (room : ℕ) → viewCall format offset number s room ≡ placed (intoBuffer y room) 0 0 (λ z. done (shows y (a .number) (a .offset)))
       unfolding viewCall
       view-is room = ap (λ o. andThenAt o (intoRoom room)) shown-frame
 
-      module _ (d₀ d : List ℕ) (r : Reading) (p : IntoBuffer (intoBuffer y (length d₀)) d₀ d r) where
+      module _ (d₀ d : List ℕ) (r : Reading)
+          (part : IntoBuffer (intoBuffer (frameWith x (coreIn f (x .«frame_type») (bits (take (length s - offset) (drop offset s))))) (length d₀)) d₀ d r) where
+        p : IntoBuffer (intoBuffer y (length d₀)) d₀ d r
+        p = subst (λ l. IntoBuffer (intoBuffer (frameWith x (coreIn f (x .«frame_type») (bits l))) (length d₀)) d₀ d r) part-is part
+
         pub no-room : (e : Refusal) → r ≡ reading.Refused e
             → ViewsInto (viewCall format offset number s (length d₀)) (number, offset) d₀ d (viewed (shown.Refused e 0 0) number offset)
         no-room e er =

@@ -8,7 +8,7 @@ use borrow.Author.Tests.{le-leb, lt-leb}
 use Rattle.definitions.specs.Outcome.{Outcome, refused, ok}
 use Rattle.definitions.specs.Frames.{Format}
 use Rattle.definitions.specs.Reading.{formatNumbered}
-use Rattle.recordings.specs.Placed.{Placed, refusedAt, done, placed, unlessAt}
+use Rattle.recordings.specs.Placed.{refusedAt, done, placed, unlessAt}
 use Rattle.recordings.specs.Recordings.{limit, fileHeader, headed, judgedFront}
 use Rattle.recordings.specs.Viewer.{openCall}
 

@@ -9,7 +9,7 @@ use Rattle.definitions.specs.Outcome.{Outcome, refused, ok}
 use Rattle.definitions.specs.Frames.{Format, coreIn}
 use Rattle.definitions.specs.Reading.{formatNumbered, bufferCore}
 use Rattle.recordings.specs.Placed.{Placed, refusedAt, done}
-use Rattle.recordings.specs.Viewer.{View, shows, end, viewAfter, moved}
+use Rattle.recordings.specs.Viewer.{View, shows, end, nextCall, viewAfter, moved}
 use Rattle.frame.specs.Answers.{numberOf, frameWith}
 use Rattle.viewer.specs.declared.Shown.{Shown}
 use Rattle.viewer.specs.declared.Shown.the-variants as shown
@@ -37,7 +37,11 @@ pub record Views (core : ℕ → List Bool) (o : Placed View) (place : ℕ × �
   pub answer : viewOf core a ≡ o
   pub behind : (a .number, a .offset) ≡ moved o place
 
--- the same, where the core's buffer is d₀ before the call and d after it
+-- a is the answer of `nextCall`, with the core where the frame stands in the recording
+abbrev pub Nexts : (format offset number : ℕ) → List ℕ → Viewed → Type 0
+Nexts format offset number s a = Views (coreAt format offset s) (nextCall format offset number s) (number, offset) a
+
+-- a is the answer o of a call that puts the core into a buffer, which is d₀ before the call and d after it
 pub record ViewsInto (o : Placed View) (place : ℕ × ℕ) (d₀ d : List ℕ) (a : Viewed) : Type 0 where
   pub views : Views (bufferCore d) o place a
   pub buffer : d ≡ viewAfter o d₀

@@ -1,7 +1,6 @@
 // Viewing a recording, a frame a call (document 01, "Recordings and conversion", last paragraph). A `Viewer` carries the recording and the
 // place of the next frame; it is thin, and `next_at` does its work over a plain slice. `view_open` and `view_next` are entries: they hand the
 // place out and take it in by numbers. The other `pub` functions are for programs in Rattle.
-use frame::Format;
 use frame::FormatFound;
 use frame::FrameHeader;
 use frame::Reading;
@@ -19,9 +18,9 @@ ghost use mathlib.Core.List.{List};
 ghost use Prim.Native.Nat.{ℕ};
 ghost use lib.ListN.{length};
 ghost use Rattle.recordings.specs.Placed.{refusedAt};
-ghost use Rattle.recordings.specs.Viewer.{openCall, nextCall, viewCall};
+ghost use Rattle.recordings.specs.Viewer.{openCall, viewCall};
 ghost use Rattle.recording_reader.specs.Answers.{countsOf};
-ghost use Rattle.viewer.specs.Answers.{coreAt, Views, ViewsInto};
+ghost use Rattle.viewer.specs.Answers.{Views, Nexts, ViewsInto};
 
 // A recording, its format's number, and the offset and the number of the next frame.
 pub struct Viewer<'a> {
@@ -58,7 +57,7 @@ fn out_of_range(number: u64, offset: u64) -> Viewed
 
 // The work: the frame that begins at an offset and has this number.
 pub fn next_at(rec: &[u8], format: u64, offset: u64, number: u64) -> Viewed
-    ensures { λ a. ⌜ Views (coreAt format offset (now (rec .entry))) (nextCall format offset number (now (rec .entry))) (number, offset) a ⌝ }
+    ensures { λ a. ⌜ Nexts format offset number (now (rec .entry)) a ⌝ }
 {
     let FormatFound::Is(f) = format_numbered(format) else {
         return out_of_range(number, offset);
@@ -107,7 +106,7 @@ pub fn new<'a>(rec: &'a [u8], format: u64, offset: u64, number: u64) -> Viewer<'
 
 // The next frame of a viewer.
 pub fn next<'a>(v: Viewer<'a>) -> Viewed
-    ensures { λ a. ⌜ Views (coreAt (v .entry .format) (v .entry .offset) (now (v .entry .rec))) (nextCall (v .entry .format) (v .entry .offset) (v .entry .number) (now (v .entry .rec))) (v .entry .number, v .entry .offset) a ⌝ }
+    ensures { λ a. ⌜ Nexts (v .entry .format) (v .entry .offset) (v .entry .number) (now (v .entry .rec)) a ⌝ }
 {
     next_at(v.rec, v.format, v.offset, v.number)
 }
@@ -126,7 +125,7 @@ pub fn moved<'a>(v: Viewer<'a>, number: u64, offset: u64) -> Viewer<'a>
 
 // The next frame, for a caller that has no viewer.
 pub fn next_of(format: u64, rec: &[u8], offset: u64, number: u64) -> Viewed
-    ensures { λ a. ⌜ Views (coreAt format offset (now (rec .entry))) (nextCall format offset number (now (rec .entry))) (number, offset) a ⌝ }
+    ensures { λ a. ⌜ Nexts format offset number (now (rec .entry)) a ⌝ }
 {
     next(new(rec, format, offset, number))
 }

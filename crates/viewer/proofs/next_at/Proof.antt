@@ -93,8 +93,11 @@ add-t24 c =
     let i = found-is (a .format) (n .result) (f .0 .0) (n .ensures) (f .1) in
     let r = c .before .before .before .read-front in
     let g = c .before .r2 .given in
-    omega (arith, next-within (a .format) (a .offset) (a .number) (a .rec .now) (formatOf (f .0 .0)) i (omega arith) (omega arith) (r .result)
-    (part-read (formatOf (f .0 .0)) (a .rec .now) (a .offset) (r .result) (r .ensures)) (g .0 .0) (g .0 .1 .0) (g .1))
+    omega (
+      arith,
+      next-within (a .format) (a .offset) (a .number) (a .rec .now) (formatOf (f .0 .0)) i (omega arith) (omega arith) (r .result)
+          (part-read (formatOf (f .0 .0)) (a .rec .now) (a .offset) (r .result) (r .ensures)) (g .0 .0) (g .0 .1 .0) (g .1),
+    )
 
 returns-5 : tie.Need-returns-5
 returns-5 c =

@@ -38,8 +38,7 @@ use denote.Triple.Table.{entered, cited}
 use denote.Triple.Walked.{says, Stays, stay-none, stay-none-slice, walkOf, goes-none, goes-none-slice, Walks, ends-at, walked, walk-meets}
 use denote.Exit.{yes}
 use denote.Triple.Clauses.{ensured, lasts}
-use Rattle.recordings.specs.Viewer.{nextCall}
-use Rattle.viewer.specs.Answers.{coreAt, Views}
+use Rattle.viewer.specs.Answers.{Nexts}
 use Rattle.viewer.specs.declared.Viewer.{Viewer}
 use Rattle.viewer.specs.declared.Viewed.{Viewed}
 use Rattle.viewer.proofs.Viewer as T
@@ -68,8 +67,7 @@ stayed = (stay-none (λ _. u64) yes, (stay-none-slice (0 ∷ []) tt (plain (λ _
 
 -- what is ensured of the answer
 abbrev Says : Viewer → Viewed → Type 0
-Says d a =
-    Views (coreAt (d .format) (d .offset) (now (d .rec))) (nextCall (d .format) (d .offset) (d .number) (now (d .rec))) (d .number, d .offset) a
+Says d a = Nexts (d .format) (d .offset) (d .number) (now (d .rec)) a
 
 module _ {M : Type 1} (𝓤 : URA M) (H : Heap 𝓤) (A : Atoms 𝓤) (mem : Memory → SProp 𝓤) (run : Routine → Fun 𝓤) where
   -- the contracts that the proof cites
