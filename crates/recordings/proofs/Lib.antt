@@ -7,3 +7,4 @@ pub mod Apart
 pub mod Demand3
 pub mod Viewer
 mod Wrong
+mod WrongViewers

@@ -2,6 +2,7 @@
 -- calls. Assumes nothing.
 use mathlib.Core.Path.{_≡_, refl, sym, ap, ap₂, _∙_}
 use mathlib.Core.Bool.{Bool, true, false, _&&_, cond}
+use mathlib.Core.Logic.{_⊎_, ⊎-elim}
 use mathlib.Core.List.{List, [], _∷_, _++_, map, append-nil, append-assoc}
 use Prim.Native.Nat.{ℕ, zero, suc, _+_, _-_, _≤_, _<_}
 use native.Mathlib.Omega.{arith}
@@ -12,7 +13,7 @@ use borrow.Author.Tests.{le-leb, lt-leb, eq-eqb, ne-eqb, leb-true, leb-false}
 use Rattle.bits.specs.Bits.{Octets, bits}
 use Rattle.bits.proofs.Tests.{both}
 use Rattle.definitions.specs.Outcome.{Outcome, refused, ok, unless}
-use Rattle.definitions.specs.Frames.{Format, Frame, layout, octets, known, typeIn, frameIn, spareClear, fieldsGood, crcGood}
+use Rattle.definitions.specs.Frames.{Format, if1, if2, storage, Frame, layout, octets, known, typeIn, frameIn, spareClear, fieldsGood, crcGood}
 use Rattle.definitions.specs.Reading.{readWith, readFrame, formatNumbered}
 use Rattle.definitions.specs.Claims.{Valid}
 use Rattle.definitions.proofs.Tables.{sized}
@@ -36,6 +37,14 @@ take-repeat l (suc m) (suc i) (suc j) [] p q = ap (λ t. l ∷ t) (take-repeat l
 take-repeat l (suc m) i j (a ∷ front) p q = ap (λ t. a ∷ t) (take-repeat l m i j front (omega arith) (omega arith))
 
 -- ---- one call
+
+-- a format that is not known is 11
+unknown-number : (format n : ℕ) → formatNumbered format ≡ refused n → n ≡ 11
+unknown-number zero n e = cc
+unknown-number (suc zero) n e = never n if1 (sym e)
+unknown-number (suc (suc zero)) n e = never n if2 (sym e)
+unknown-number (suc (suc (suc zero))) n e = never n storage (sym e)
+unknown-number (suc (suc (suc (suc m)))) n e = cc
 
 pub next-unknown : (format : ℕ) (s : List ℕ) (k at : ℕ) → formatNumbered format ≡ refused 11 → nextCall format at k s ≡ refusedAt 11 0 0
 unfolding nextCall
@@ -243,5 +252,15 @@ unopened f s n k at l h =
     open-is f s
     ∙ unless-same (leb (length s) limit) (headed f s) (scanFrames f s) (done (0, m)) n k at (λ e. omega (arith, scan-number f 0 0 m (drop m s) n k at e)) h
 
+-- ---- the arguments
+
+judges : (format offset number : ℕ) (s : List ℕ) → (length s < offset) ⊎ (offset < number) → nextCall format offset number s ≡ refusedAt 11 0 0
+judges format offset number s h = go (formatNumbered format) refl (leb offset (length s)) refl
+  where
+    go : (o : Outcome Format) → formatNumbered format ≡ o → (b : Bool) → leb offset (length s) ≡ b → nextCall format offset number s ≡ refusedAt 11 0 0
+    go (refused n) e b l = next-unknown format s number offset (e ∙ ap refused (unknown-number format n e))
+    go (ok f) e false l = next-past format f s e number offset (leb-false _ _ l)
+    go (ok f) e true l = ⊎-elim (λ p. absurd (omega (arith, leb-true offset (length s) l))) (λ p. next-above format f s e number offset (leb-true _ _ l) p) h
+
 pub views-recordings : ViewsRecordings openCall nextCall
-views-recordings = record { valid = valid; stopped = stopped; unopened = unopened }
+views-recordings = record { valid = valid; stopped = stopped; unopened = unopened; judges = judges }
