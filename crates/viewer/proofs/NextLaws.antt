@@ -19,16 +19,14 @@ use Rattle.recordings.proofs.Viewer.{next-unknown, next-end, next-frame, next-s
 use Rattle.frame.specs.Answers.{numberOf, frameWith, readingOf}
 use Rattle.frame.specs.declared.FrameHeader.{FrameHeader}
 use Rattle.frame.specs.declared.Refusal.{Refusal}
+use Rattle.frame.specs.declared.Refusal.the-variants.{ArgumentRange}
 use Rattle.frame.specs.declared.Reading.{Reading}
 use Rattle.frame.specs.declared.Reading.the-variants as reading
 use Rattle.frame_reader.specs.Buffer.{IntoBuffer}
-use Rattle.viewer.specs.Answers.{viewOf, shownOf, coreIf, coreAt, Views, Nexts, ViewsInto}
+use Rattle.viewer.specs.Answers.{viewedAt, viewOf, shownOf, coreIf, coreAt, Views, Nexts, ViewsInto}
 use Rattle.viewer.specs.declared.Shown.{Shown}
 use Rattle.viewer.specs.declared.Shown.the-variants as shown
 use Rattle.viewer.specs.declared.Viewed.{Viewed}
-
-abbrev viewed : Shown → (number offset : ℕ) → Viewed
-viewed s number offset = record { shown = s; number = number; offset = offset }
 
 -- ---- the call over a plain slice
 
@@ -36,22 +34,26 @@ module _ (format offset number : ℕ) (s : List ℕ) where
   abbrev called : Placed View
   called = nextCall format offset number s
 
-  -- an answer of the call, once it is known what the call is
-  pub views-as : (core : ℕ → List Bool) (o : Placed View) (a : Viewed) → called ≡ o → Views core o (number, offset) a → Views core called (number, offset) a
-  views-as core o a e v = subst (λ o. Views core o (number, offset) a) (sym e) v
+  -- an answer that stays, once it is known what the call is
+  stays-as : (w : Shown) (a : Viewed) → a ≡ viewedAt w number offset → called ≡ shownOf (coreAt format offset s) number offset w
+      → moved (shownOf (coreAt format offset s) number offset w) (number, offset) ≡ (number, offset) → Nexts format offset number s a
+  stays-as w a e c m =
+      subst (Nexts format offset number s) (sym e) (record { answer = sym c; behind = sym m ∙ sym (ap (λ o. moved o (number, offset)) c) })
+
+  pub out-next : (a : Viewed) → a ≡ viewedAt (shown.Refused ArgumentRange 0 0) number offset → called ≡ refusedAt 11 0 0 → Nexts format offset number s a
+  out-next a e c = stays-as (shown.Refused ArgumentRange 0 0) a e c refl
 
   module _ (f : Format) (found : formatNumbered format ≡ ok f) where
-    pub end-next : offset ≡ length s → number ≤ offset → Nexts format offset number s (viewed shown.End number offset)
-    end-next l h = views-as _ (done end) _ (next-end format f s found number offset l h) (record { answer = refl; behind = refl })
+    pub end-next : (a : Viewed) → a ≡ viewedAt shown.End number offset → offset ≡ length s → number ≤ offset → Nexts format offset number s a
+    end-next a e l h = stays-as shown.End a e (next-end format f s found number offset l h) refl
 
     module _ (l : offset < length s) (h : number ≤ offset) (r : Reading)
         (er : readingOf (λ t. coreIn f t (bits (drop offset s))) r ≡ readFrame f (drop offset s)) where
-      pub refused-next : (e : Refusal) → r ≡ reading.Refused e
-          → Nexts format offset number s (viewed (shown.Refused e number offset) number offset)
-      refused-next e ee =
-          views-as _ (refusedAt (numberOf e) number offset) _
-          (next-frame format f s found number offset (refused (numberOf e)) l h (sym er ∙ ap (readingOf (λ t. coreIn f t (bits (drop offset s)))) ee))
-          (record { answer = refl; behind = refl })
+      pub refused-next : (e : Refusal) → r ≡ reading.Refused e → (a : Viewed) → a ≡ viewedAt (shown.Refused e number offset) number offset
+          → Nexts format offset number s a
+      refused-next e ee a ea =
+          stays-as (shown.Refused e number offset) a ea
+          (next-frame format f s found number offset (refused (numberOf e)) l h (sym er ∙ ap (readingOf (λ t. coreIn f t (bits (drop offset s)))) ee)) refl
 
       module _ (x : FrameHeader) (n : ℕ) (ex : r ≡ reading.Frame x n) where
         there : readFrame f (drop offset s) ≡ ok (frameWith x (coreIn f (x .«frame_type») (bits (drop offset s))), n)
@@ -60,16 +62,16 @@ module _ (format offset number : ℕ) (s : List ℕ) where
         pub next-within : offset + n ≤ length s
         next-within = let k = read-known false f (drop offset s) _ n there in omega (arith, k .1, k .2, length-drop offset s)
 
-        pub frame-next : Nexts format offset number s (viewed (shown.Frame x) (number + 1) (offset + n))
+        pub frame-next : Nexts format offset number s (viewedAt (shown.Frame x) (number + 1) (offset + n))
         frame-next =
             let core = coreIn f (x .«frame_type») (bits (drop offset s)) in
             let one : suc number ≡ number + 1 = omega arith in
             let is : called ≡ done (shows (frameWith x core) (number + 1) (offset + n)) =
             next-frame format f s found number offset _ l h there ∙ ap (λ k. done (shows (frameWith x core) k (offset + n))) one in
-            views-as _ _ _ is (record {
-              answer = ap (λ o. done (shows (frameWith x (coreIf o offset s (x .«frame_type»))) (number + 1) (offset + n))) found;
-              behind = refl;
-            })
+            record {
+              answer = ap (λ o. done (shows (frameWith x (coreIf o offset s (x .«frame_type»))) (number + 1) (offset + n))) found ∙ sym is;
+              behind = sym (ap (λ o. moved o (number, offset)) is);
+            }
 
 -- ---- the core put into a buffer
 
@@ -146,14 +148,14 @@ module _ (format offset number : ℕ) (s : List ℕ) (a : Viewed) (v : Nexts for
         p : IntoBuffer (intoBuffer y (length d₀)) d₀ d r
         p = subst (λ l. IntoBuffer (intoBuffer (frameWith x (coreIn f (x .«frame_type») (bits l))) (length d₀)) d₀ d r) part-is part
 
-        pub no-room : (e : Refusal) → r ≡ reading.Refused e
-            → ViewsInto (viewCall format offset number s (length d₀)) (number, offset) d₀ d (viewed (shown.Refused e 0 0) number offset)
-        no-room e er =
+        pub no-room : (e : Refusal) → r ≡ reading.Refused e → (q : Viewed) → q ≡ viewedAt (shown.Refused e 0 0) number offset
+            → ViewsInto (viewCall format offset number s (length d₀)) (number, offset) d₀ d q
+        no-room e er q eq =
             let i : intoBuffer y (length d₀) ≡ refused (numberOf e) = sym (p .answer) ∙ ap (readingOf (bufferCore d)) er in
             let is : viewCall format offset number s (length d₀) ≡ refusedAt (numberOf e) 0 0 =
             view-is (length d₀) ∙ ap (λ o. placed o 0 0 (λ z. done (shows y (a .number) (a .offset)))) i in
-            subst (λ o. ViewsInto o (number, offset) d₀ d (viewed (shown.Refused e 0 0) number offset)) (sym is) (record {
-              views = record { answer = refl; behind = refl };
+            subst (λ o. ViewsInto o (number, offset) d₀ d q) (sym is) (record {
+              views = record { answer = ap (viewOf (bufferCore d)) eq; behind = ap (λ (q : Viewed). (q .number, q .offset)) eq };
               buffer = p .buffer ∙ ap (λ o. coreAfter o d₀) i;
             })
 

@@ -15,6 +15,9 @@ use Rattle.viewer.specs.declared.Shown.{Shown}
 use Rattle.viewer.specs.declared.Shown.the-variants as shown
 use Rattle.viewer.specs.declared.Viewed.{Viewed}
 
+abbrev pub viewedAt : Shown → (number offset : ℕ) → Viewed
+viewedAt s number offset = record { shown = s; number = number; offset = offset }
+
 -- the core is where the call put or found it, by the frame's type
 abbrev pub shownOf : (ℕ → List Bool) → (number offset : ℕ) → Shown → Placed View
 shownOf core number offset (shown.Frame h) = done (shows (frameWith h (core (h .«frame_type»))) number offset)

@@ -13,14 +13,12 @@ use recording_reader::LIMIT;
 use recording_reader::headed;
 use recording_reader::header_octets;
 ghost use mathlib.Core.Path.{_≡_};
-ghost use mathlib.Core.Bool.{Bool};
-ghost use mathlib.Core.List.{List};
-ghost use Prim.Native.Nat.{ℕ};
 ghost use lib.ListN.{length};
-ghost use Rattle.recordings.specs.Placed.{refusedAt};
 ghost use Rattle.recordings.specs.Viewer.{openCall, viewCall};
+ghost use Rattle.frame.specs.declared.Refusal.the-variants.{ArgumentRange};
 ghost use Rattle.recording_reader.specs.Answers.{countsOf};
-ghost use Rattle.viewer.specs.Answers.{Views, Nexts, ViewsInto};
+ghost use Rattle.viewer.specs.Answers.{viewedAt, Nexts, ViewsInto};
+ghost use Rattle.viewer.specs.declared.Shown.the-variants as shown;
 
 // A recording, its format's number, and the offset and the number of the next frame.
 pub struct Viewer<'a> {
@@ -44,15 +42,22 @@ pub struct Viewed {
     pub offset: u64,
 }
 
-// An argument is out of range; the place stays.
-fn out_of_range(number: u64, offset: u64) -> Viewed
-    ensures { λ a. ⌜ ((core : ℕ → List Bool) → Views core (refusedAt 11 0 0) (number, offset) a) ⌝ }
+// What a call hands out that does not move.
+fn stays(shown: Shown, number: u64, offset: u64) -> Viewed
+    ensures { λ a. ⌜ a ≡ viewedAt shown number offset ⌝ }
 {
     Viewed {
-        shown: Shown::Refused(Refusal::ArgumentRange, 0, 0),
+        shown,
         number,
         offset,
     }
+}
+
+// An argument is out of range.
+fn out_of_range(number: u64, offset: u64) -> Viewed
+    ensures { λ a. ⌜ a ≡ viewedAt (shown.Refused ArgumentRange 0 0) number offset ⌝ }
+{
+    stays(Shown::Refused(Refusal::ArgumentRange, 0, 0), number, offset)
 }
 
 // The work: the frame that begins at an offset and has this number.
@@ -70,20 +75,12 @@ pub fn next_at(rec: &[u8], format: u64, offset: u64, number: u64) -> Viewed
         return out_of_range(number, offset);
     }
     if offset == len {
-        return Viewed {
-            shown: Shown::End,
-            number,
-            offset,
-        };
+        return stays(Shown::End, number, offset);
     }
     let at = offset as usize;
     let r = read_front(f, &rec[at..]);
     match r {
-        Reading::Refused(e) => Viewed {
-            shown: Shown::Refused(e, number, offset),
-            number,
-            offset,
-        },
+        Reading::Refused(e) => stays(Shown::Refused(e, number, offset), number, offset),
         Reading::Frame(h, n) => Viewed {
             shown: Shown::Frame(h),
             number: number + 1,
@@ -158,14 +155,10 @@ pub fn view_next(format: u64, offset: u64, number: u64, rec: &[u8], core: &mut [
     let FormatFound::Is(f) = format_numbered(format) else {
         return a;
     };
-    let at = offset as usize;
-    let r = core_out(f, &rec[at..], h, core);
+    let from = offset as usize;
+    let r = core_out(f, &rec[from..], h, core);
     match r {
-        Reading::Refused(e) => Viewed {
-            shown: Shown::Refused(e, 0, 0),
-            number,
-            offset,
-        },
+        Reading::Refused(e) => stays(Shown::Refused(e, 0, 0), number, offset),
         Reading::Frame(_, _) => a,
     }
 }

@@ -86,6 +86,9 @@ core-out-requires c κs =
 enum-known-r : tie.Need-enum-known-r
 enum-known-r c = search needs
 
+stays-requires : tie.Need-stays-requires
+stays-requires c κs = search needs
+
 enum-told-2 : tie.Need-enum-told-2
 enum-told-2 c = search needs
 
@@ -94,15 +97,15 @@ same-length c = search needs
 
 returns-3 : tie.Need-returns-3
 returns-3 c =
-    let a = c .before .before .before .before .before .before .before .before .before .before .before .before .before .before .before .before .before .before .args in
-    let v = c .before .before .before .before .before .before .before .before .before .before .before .before .before .before .before .next-of in
-    let x = c .before .before .before .before .before .before .before .before .before .before .before .before .before .s .given in
-    let n = c .before .before .before .before .before .before .before .before .before .before .before .format-numbered in
-    let f = c .before .before .before .before .before .before .before .before .before .f .given in
+    let a = c .before .before .before .before .before .before .before .before .before .before .before .before .before .before .before .before .before .before .before .args in
+    let v = c .before .before .before .before .before .before .before .before .before .before .before .before .before .before .before .before .next-of in
+    let x = c .before .before .before .before .before .before .before .before .before .before .before .before .before .before .s .given in
+    let n = c .before .before .before .before .before .before .before .before .before .before .before .before .format-numbered in
+    let f = c .before .before .before .before .before .before .before .before .before .before .f .given in
     let i = found-is (a .format) (n .result) (f .0 .0) (n .ensures) (f .1) in
-    let o = c .before .before .before .before .before .core-out in
-    let e = c .before .r .given in
-    no-room (a .format) (a .offset) (a .number) (a .rec .now) (v .result) (v .ensures) (x .0 .0) (x .1) (formatOf (f .0 .0)) i (a .core .now) (o .last .1 .1 .1 .0) (o .result) (o .ensures) (e .0 .0) (e .1)
+    let o = c .before .before .before .before .before .before .core-out in
+    let e = c .before .before .r .given in
+    no-room (a .format) (a .offset) (a .number) (a .rec .now) (v .result) (v .ensures) (x .0 .0) (x .1) (formatOf (f .0 .0)) i (a .core .now) (o .last .1 .1 .1 .0) (o .result) (o .ensures) (e .0 .0) (e .1) (c .stays .result) (c .stays .ensures)
 
 same-length-2 : tie.Need-same-length-2
 same-length-2 c = search needs
@@ -135,6 +138,7 @@ view-next-spec =
     part-core-out-end
     core-out-requires
     enum-known-r
+    stays-requires
     enum-told-2
     same-length
     returns-3
