@@ -5,6 +5,7 @@ pub mod Returning
 pub mod Trips
 pub mod Apart
 pub mod Demand3
+pub mod ViewCalls
 pub mod Viewer
 mod Wrong
 mod WrongViewers

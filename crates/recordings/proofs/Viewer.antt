@@ -1,31 +1,31 @@
 -- A viewer goes through the frames as they are laid out, one a call, and then stays where it is: by induction over the frames and the
 -- calls. Assumes nothing.
 use mathlib.Core.Path.{_≡_, refl, sym, ap, ap₂, _∙_}
-use mathlib.Core.Bool.{Bool, true, false, _&&_, cond}
+use mathlib.Core.Bool.{Bool, true, false}
 use mathlib.Core.Logic.{_⊎_, ⊎-elim}
 use mathlib.Core.List.{List, [], _∷_, _++_, map, append-nil, append-assoc}
 use Prim.Native.Nat.{ℕ, zero, suc, _+_, _-_, _≤_, _<_}
 use native.Mathlib.Omega.{arith}
-use lib.Dec.{eqb, leb}
+use lib.Dec.{leb}
 use lib.ListN.{length, take, drop, replicate, length-replicate, length-append, take-append-drop}
 use lib.Seq.{drop-at, drop-drop, drop-length, take-all}
-use borrow.Author.Tests.{le-leb, lt-leb, eq-eqb, ne-eqb, leb-true, leb-false}
+use borrow.Author.Tests.{leb-true, leb-false}
 use Rattle.bits.specs.Bits.{Octets, bits}
-use Rattle.bits.proofs.Tests.{both}
 use Rattle.definitions.specs.Outcome.{Outcome, refused, ok, unless}
-use Rattle.definitions.specs.Frames.{Format, if1, if2, storage, Frame, layout, octets, known, typeIn, frameIn, spareClear, fieldsGood, crcGood}
+use Rattle.definitions.specs.Frames.{Format, Frame, layout, octets, known, typeIn, frameIn, spareClear, fieldsGood, crcGood}
 use Rattle.definitions.specs.Reading.{readWith, readFrame, formatNumbered}
 use Rattle.definitions.specs.Claims.{Valid}
 use Rattle.definitions.proofs.Tables.{sized}
 use Rattle.definitions.proofs.Frames.{never, length-layout, read-layout}
 use Rattle.recordings.specs.Placed.{Placed, refusedAt, done, unlessAt, placed}
-use Rattle.recordings.specs.Recordings.{limit, fileHeader, headed, before, scan, scanFrames, judgedFront, readRecording, layouts, writeRecording}
+use Rattle.recordings.specs.Recordings.{limit, fileHeader, headed, before, scan, scanFrames, readRecording, layouts, writeRecording}
 use Rattle.recordings.specs.Claims.{Every, none, first, StopsAt}
 use Rattle.recordings.specs.Demand3.{formatNumber}
-use Rattle.recordings.specs.Viewer.{View, shows, end, openCall, nextCall, Handed, frame, the-end, refusal, handed, moved, inTurn, Hands, ViewsRecordings}
-use Rattle.recordings.proofs.Scan.{not-done, not-refused, before-refused}
+use Rattle.recordings.specs.Viewer.{View, shows, openCall, nextCall, Handed, frame, the-end, refusal, handed, moved, inTurn, Hands, ViewsRecordings}
+use Rattle.recordings.proofs.Scan.{not-refused, before-refused}
 use Rattle.recordings.proofs.Claims.{unless-done, unless-refused, read-recording, is-read}
 use Rattle.recordings.proofs.Trips.{format-numbered}
+use Rattle.recordings.proofs.ViewCalls.{open-too-long, open-not-headed, open-first, unknown-number, next-unknown, next-past, next-above, next-end, next-frame}
 
 -- ---- lists that end in one element again and again
 
@@ -35,63 +35,6 @@ take-repeat l (suc m) zero j [] p q = absurd (omega arith)
 take-repeat l (suc m) (suc i) zero [] p q = absurd (omega arith)
 take-repeat l (suc m) (suc i) (suc j) [] p q = ap (λ t. l ∷ t) (take-repeat l m i j [] (omega arith) (omega arith))
 take-repeat l (suc m) i j (a ∷ front) p q = ap (λ t. a ∷ t) (take-repeat l m i j front (omega arith) (omega arith))
-
--- ---- one call
-
--- a format that is not known is 11
-unknown-number : (format n : ℕ) → formatNumbered format ≡ refused n → n ≡ 11
-unknown-number zero n e = cc
-unknown-number (suc zero) n e = never n if1 (sym e)
-unknown-number (suc (suc zero)) n e = never n if2 (sym e)
-unknown-number (suc (suc (suc zero))) n e = never n storage (sym e)
-unknown-number (suc (suc (suc (suc m)))) n e = cc
-
-pub next-unknown : (format : ℕ) (s : List ℕ) (k at : ℕ) → formatNumbered format ≡ refused 11 → nextCall format at k s ≡ refusedAt 11 0 0
-unfolding nextCall
-next-unknown format s k at e =
-    ap (λ n. placed n 0 0 (λ f. unlessAt 11 (leb at (length s) && leb k at) (cond (eqb at (length s)) (done end) (placed (readFrame f (drop at s)) k at (λ y. done (shows (y .0) (suc k) (at + y .1))))))) e
-
--- once the format is known
-module _ (format : ℕ) (f : Format) (s : List ℕ) (found : formatNumbered format ≡ ok f) where
-  -- the end, or the frame
-  abbrev after : (k at : ℕ) → Bool → Outcome (Frame × ℕ) → Placed View
-  after k at b o = cond b (done end) (placed o k at (λ y. done (shows (y .0) (suc k) (at + y .1))))
-
-  next-is : (k at : ℕ) → nextCall format at k s ≡ unlessAt 11 (leb at (length s) && leb k at) (after k at (eqb at (length s)) (readFrame f (drop at s)))
-  unfolding nextCall
-  next-is k at = ap (λ n. placed n 0 0 (λ g. unlessAt 11 (leb at (length s) && leb k at) (after k at (eqb at (length s)) (readFrame g (drop at s))))) found
-
-  -- at a place that is judged
-  next-in : (k at : ℕ) → at ≤ length s → k ≤ at → nextCall format at k s ≡ after k at (eqb at (length s)) (readFrame f (drop at s))
-  next-in k at l h =
-      next-is k at ∙ ap (λ b. unlessAt 11 b (after k at (eqb at (length s)) (readFrame f (drop at s)))) (both _ _ (le-leb _ _ l) (le-leb _ _ h))
-
-  pub next-past : (k at : ℕ) → length s < at → nextCall format at k s ≡ refusedAt 11 0 0
-  next-past k at l = next-is k at ∙ ap (λ b. unlessAt 11 (b && leb k at) (after k at (eqb at (length s)) (readFrame f (drop at s)))) (lt-leb _ _ l)
-
-  pub next-above : (k at : ℕ) → at ≤ length s → at < k → nextCall format at k s ≡ refusedAt 11 0 0
-  next-above k at l h =
-      next-is k at ∙ ap₂ (λ a b. unlessAt 11 (a && b) (after k at (eqb at (length s)) (readFrame f (drop at s)))) (le-leb _ _ l) (lt-leb _ _ h)
-
-  pub next-end : (k at : ℕ) → at ≡ length s → k ≤ at → nextCall format at k s ≡ done end
-  next-end k at l h = next-in k at (omega arith) h ∙ ap (λ b. after k at b (readFrame f (drop at s))) (eq-eqb _ _ l)
-
-  pub next-frame : (k at : ℕ) (o : Outcome (Frame × ℕ)) → at < length s → k ≤ at → readFrame f (drop at s) ≡ o
-      → nextCall format at k s ≡ placed o k at (λ y. done (shows (y .0) (suc k) (at + y .1)))
-  next-frame k at o l h e = next-in k at (omega arith) h ∙ ap₂ (after k at) (ne-eqb at (length s) (λ q. omega arith)) e
-
-  -- a frame that is shown was read at the place
-  pub next-shown : (k at : ℕ) (x : Frame) (j p : ℕ) → nextCall format at k s ≡ done (shows x j p)
-      → (n : ℕ) × (at ≤ length s) × (readFrame f (drop at s) ≡ ok (x, n))
-  next-shown k at x j p h = go (leb at (length s)) (leb k at) (eqb at (length s)) (readFrame f (drop at s)) refl refl (sym (next-is k at) ∙ h)
-    where
-      go : (a b c : Bool) (o : Outcome (Frame × ℕ)) → leb at (length s) ≡ a → readFrame f (drop at s) ≡ o → unlessAt 11 (a && b) (after k at c o) ≡ done (shows x j p)
-          → (n : ℕ) × (at ≤ length s) × (readFrame f (drop at s) ≡ ok (x, n))
-      go false b c o e r w = not-done 11 0 0 (shows x j p) w
-      go true false c o e r w = not-done 11 0 0 (shows x j p) w
-      go true true true o e r w = absurd (let z : _≡_ {A = ℕ} 0 1 = cc in omega arith)
-      go true true false (refused n) e r w = not-done n k at (shows x j p) w
-      go true true false (ok y) e r w = (y .1, leb-true _ _ e, r ∙ ap (λ x. ok (x, y .1)) (let q : y .0 ≡ x = cc in q))
 
 -- ---- many calls
 
@@ -121,7 +64,7 @@ module _ (f : Format) (s : List ℕ) (last : Handed) (j p : ℕ) (within : p ≤
       let long = length-layout f x v in
       let front : drop at s ≡ layout f x ++ (layouts f xs ++ drop p s) = e ∙ append-assoc (layout f x) (layouts f xs) (drop p s) in
       let r : readFrame f (drop at s) ≡ ok (x, n) = ap (readFrame f) front ∙ read-layout false f x (layouts f xs ++ drop p s) v refl in
-      let w : next f s (k, at) ≡ done (shows x (suc k) (at + n)) = next-frame (formatNumber f) f s (format-numbered f) k at (ok (x, n)) (omega (arith, size, long, one)) h r in
+      let w : next f s (k, at) ≡ done (shows x (suc k) (at + n)) = next-frame (formatNumber f) s f (format-numbered f) k at (ok (x, n)) (omega (arith, size, long, one)) h r in
       let d : drop (at + n) s ≡ layouts f xs ++ drop p s =
       sym (drop-drop n at s) ∙ ap (drop n) front ∙ drop-at (layout f x) (layouts f xs ++ drop p s) n long in
       ap (λ w. handed w ∷ inTurn (next f s) m (moved w (k, at))) w
@@ -135,15 +78,6 @@ few f [] none = omega arith
 few f (x ∷ xs) (first v vs) =
     omega (arith, few f xs vs, length-append (layout f x) (layouts f xs), length-layout f x v, sized f (x .type) (v .type-known) .some-octet)
 
--- ---- opening
-
-open-is : (f : Format) (s : List ℕ) → openCall (formatNumber f) s ≡ judgedFront f s (done (0, length (fileHeader f)))
-unfolding openCall
-open-is f s = ap (λ n. placed n 0 0 (λ f. judgedFront f s (done (0, length (fileHeader f))))) (format-numbered f)
-
-opened : (f : Format) (s : List ℕ) → leb (length s) limit ≡ true → headed f s ≡ true → openCall (formatNumber f) s ≡ done (0, length (fileHeader f))
-opened f s a b = open-is f s ∙ ap₂ (λ a b. unlessAt 9 a (unlessAt 8 b (done (0, length (fileHeader f))))) a b
-
 -- ---- a valid recording
 
 valid : (f : Format) (s : List ℕ) (xs : List Frame) → Octets s → readRecording f s ≡ done xs → Hands openCall nextCall f s xs the-end
@@ -156,10 +90,10 @@ valid f s xs o h =
     let size : n + length (layouts f xs) ≡ length s = sym (length-append (fileHeader f) (layouts f xs)) ∙ sym (ap length (r .laid)) in
     let d : drop n s ≡ layouts f xs ++ drop (length s) s =
     ap (drop n) (r .laid) ∙ drop-at (fileHeader f) (layouts f xs) n refl ∙ sym (append-nil (layouts f xs)) ∙ ap (λ l. layouts f xs ++ l) (sym (drop-length s)) in
-    let w = next-end (formatNumber f) f s (format-numbered f) (length xs) (length s) refl (omega (arith, few f xs (r .valid), size)) in
+    let w = next-end (formatNumber f) s f (format-numbered f) (length xs) (length s) refl (omega (arith, few f xs (r .valid), size)) in
     record {
       place = (0, n);
-      opens = opened f s (a .0) (b .0);
+      opens = open-first (formatNumber f) s f (format-numbered f) _ (leb-true _ _ (a .0)) (b .0) refl;
       hands = goes f s the-end (length xs) (length s) (omega arith) (ap handed w) (ap (λ w. moved w (length xs, length s)) w) xs 0 n (r .valid) d (omega arith) size (omega arith);
     }
 
@@ -187,10 +121,10 @@ stopped f s n k at o l h p =
     let e : s ≡ fileHeader f ++ (layouts f (p .xs) ++ drop at s) =
     sym (take-append-drop at s) ∙ ap (λ l. l ++ drop at s) (p .laid) ∙ append-assoc (fileHeader f) (layouts f (p .xs)) (drop at s) in
     let d : drop m s ≡ layouts f (p .xs) ++ drop at s = ap (drop m) e ∙ drop-at (fileHeader f) (layouts f (p .xs) ++ drop at s) m refl in
-    let w = next-frame (formatNumber f) f s (format-numbered f) k at (refused n) some (omega (arith, few f (p .xs) (p .valid), size, p .octet, p .number)) (p .refusal) in
+    let w = next-frame (formatNumber f) s f (format-numbered f) k at (refused n) some (omega (arith, few f (p .xs) (p .valid), size, p .octet, p .number)) (p .refusal) in
     record {
       place = (0, m);
-      opens = opened f s (a .0) (b .0);
+      opens = open-first (formatNumber f) s f (format-numbered f) _ (leb-true _ _ (a .0)) (b .0) refl;
       hands = goes f s (refusal n k at) k at (omega arith) (ap handed w) (ap (λ w. moved w (k, at)) w) (p .xs) 0 m (p .valid) d (omega (arith, p .number)) (omega (arith, size, p .octet)) (omega arith);
     }
 
@@ -231,26 +165,21 @@ scan-number f zero k at (o ∷ s) n j p h = go (readFrame f (o ∷ s)) refl h (�
     go (refused m) e w ih = frame-number f (o ∷ s) n (e ∙ ap refused (let q : m ≡ n = cc in q))
     go (ok y) e w ih = ih (y .1 - 1) (before-refused (y .0) (scan f (y .1 - 1) (suc k) (suc at) s) n j p w)
 
--- of two chains of the same tests the one refuses as the other
-unless-same : {A B : Type 0} (a b : Bool) (w : Placed A) (v : Placed B) (n k at : ℕ) → (w ≡ refusedAt n k at → ⊥)
-    → unlessAt 9 a (unlessAt 8 b w) ≡ refusedAt n k at → unlessAt 9 a (unlessAt 8 b v) ≡ refusedAt n k at
-unless-same {A} {B} a b w v n k at g h = go a b h
-  where
-    same : Placed A → Placed B
-    same (refusedAt n k at) = refusedAt n k at
-    same (done x) = refusedAt 0 0 0
-
-    go : (a b : Bool) → unlessAt 9 a (unlessAt 8 b w) ≡ refusedAt n k at → unlessAt 9 a (unlessAt 8 b v) ≡ refusedAt n k at
-    go false b h = ap same h
-    go true false h = ap same h
-    go true true h = absurd (g h)
-
 unopened : (f : Format) (s : List ℕ) (n k at : ℕ) → 8 ≤ n → readRecording f s ≡ refusedAt n k at → openCall (formatNumber f) s ≡ refusedAt n k at
 unfolding readRecording
-unopened f s n k at l h =
-    let m = length (fileHeader f) in
-    open-is f s
-    ∙ unless-same (leb (length s) limit) (headed f s) (scanFrames f s) (done (0, m)) n k at (λ e. omega (arith, scan-number f 0 0 m (drop m s) n k at e)) h
+unopened f s n k at l h = go (leb (length s) limit) refl (headed f s) refl h
+  where
+    same : Placed (List Frame) → Placed (ℕ × ℕ)
+    same (refusedAt n k at) = refusedAt n k at
+    same (done xs) = done (0, 0)
+
+    go : (a : Bool) → leb (length s) limit ≡ a → (b : Bool) → headed f s ≡ b → unlessAt 9 a (unlessAt 8 b (scanFrames f s)) ≡ refusedAt n k at
+        → openCall (formatNumber f) s ≡ refusedAt n k at
+    go false ea b eb w = open-too-long (formatNumber f) s f (format-numbered f) (leb-false _ _ ea) ∙ ap same w
+    go true ea false eb w = open-not-headed (formatNumber f) s f (format-numbered f) (leb-true _ _ ea) eb ∙ ap same w
+    go true ea true eb w =
+        let m = length (fileHeader f) in
+        absurd (omega (arith, scan-number f 0 0 m (drop m s) n k at w))
 
 -- ---- the arguments
 
@@ -259,8 +188,8 @@ judges format offset number s h = go (formatNumbered format) refl (leb offset (l
   where
     go : (o : Outcome Format) → formatNumbered format ≡ o → (b : Bool) → leb offset (length s) ≡ b → nextCall format offset number s ≡ refusedAt 11 0 0
     go (refused n) e b l = next-unknown format s number offset (e ∙ ap refused (unknown-number format n e))
-    go (ok f) e false l = next-past format f s e number offset (leb-false _ _ l)
-    go (ok f) e true l = ⊎-elim (λ p. absurd (omega (arith, leb-true offset (length s) l))) (λ p. next-above format f s e number offset (leb-true _ _ l) p) h
+    go (ok f) e false l = next-past format s f e number offset (leb-false _ _ l)
+    go (ok f) e true l = ⊎-elim (λ p. absurd (omega (arith, leb-true offset (length s) l))) (λ p. next-above format s f e number offset (leb-true _ _ l) p) h
 
 pub views-recordings : ViewsRecordings openCall nextCall
 views-recordings = record { valid = valid; stopped = stopped; unopened = unopened; judges = judges }

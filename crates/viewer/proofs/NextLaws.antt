@@ -15,7 +15,7 @@ use Rattle.definitions.proofs.Frames.{never, read-known}
 use Rattle.recordings.specs.Placed.{Placed, refusedAt, done, placed, andThenAt}
 use Rattle.recordings.specs.Viewer.{View, shows, end, nextCall, intoRoom, viewCall, viewAfter, moved}
 use Rattle.recordings.proofs.Scan.{not-done}
-use Rattle.recordings.proofs.Viewer.{next-unknown, next-end, next-frame, next-shown}
+use Rattle.recordings.proofs.ViewCalls.{next-unknown, next-end, next-frame, next-shown}
 use Rattle.frame.specs.Answers.{numberOf, frameWith, readingOf}
 use Rattle.frame.specs.declared.FrameHeader.{FrameHeader}
 use Rattle.frame.specs.declared.Refusal.{Refusal}
@@ -45,7 +45,7 @@ module _ (format offset number : ℕ) (s : List ℕ) where
 
   module _ (f : Format) (found : formatNumbered format ≡ ok f) where
     pub end-next : (a : Viewed) → a ≡ viewedAt shown.End number offset → offset ≡ length s → number ≤ offset → Nexts format offset number s a
-    end-next a e l h = stays-as shown.End a e (next-end format f s found number offset l h) refl
+    end-next a e l h = stays-as shown.End a e (next-end format s f found number offset l h) refl
 
     module _ (l : offset < length s) (h : number ≤ offset) (r : Reading)
         (er : readingOf (λ t. coreIn f t (bits (drop offset s))) r ≡ readFrame f (drop offset s)) where
@@ -53,7 +53,7 @@ module _ (format offset number : ℕ) (s : List ℕ) where
           → Nexts format offset number s a
       refused-next e ee a ea =
           stays-as (shown.Refused e number offset) a ea
-          (next-frame format f s found number offset (refused (numberOf e)) l h (sym er ∙ ap (readingOf (λ t. coreIn f t (bits (drop offset s)))) ee)) refl
+          (next-frame format s f found number offset (refused (numberOf e)) l h (sym er ∙ ap (readingOf (λ t. coreIn f t (bits (drop offset s)))) ee)) refl
 
       module _ (x : FrameHeader) (n : ℕ) (ex : r ≡ reading.Frame x n) where
         there : readFrame f (drop offset s) ≡ ok (frameWith x (coreIn f (x .«frame_type») (bits (drop offset s))), n)
@@ -67,7 +67,7 @@ module _ (format offset number : ℕ) (s : List ℕ) where
             let core = coreIn f (x .«frame_type») (bits (drop offset s)) in
             let one : suc number ≡ number + 1 = omega arith in
             let is : called ≡ done (shows (frameWith x core) (number + 1) (offset + n)) =
-            next-frame format f s found number offset _ l h there ∙ ap (λ k. done (shows (frameWith x core) k (offset + n))) one in
+            next-frame format s f found number offset _ l h there ∙ ap (λ k. done (shows (frameWith x core) k (offset + n))) one in
             record {
               answer = ap (λ o. done (shows (frameWith x (coreIf o offset s (x .«frame_type»))) (number + 1) (offset + n))) found ∙ sym is;
               behind = sym (ap (λ o. moved o (number, offset)) is);
@@ -127,7 +127,7 @@ module _ (format offset number : ℕ) (s : List ℕ) (a : Viewed) (v : Nexts for
       shown-frame = shown-as ∙ ap (λ o. done (shows (frameWith x (coreIf o offset s (x .«frame_type»))) (a .number) (a .offset))) found
 
       pub offset-within : offset ≤ length s
-      offset-within = next-shown format f s found number offset y (a .number) (a .offset) shown-frame .1
+      offset-within = next-shown format s f found number offset y (a .number) (a .offset) shown-frame .1
 
       -- the code takes the part of the recording up to the end
       part-is : take (length s - offset) (drop offset s) ≡ drop offset s
@@ -135,7 +135,7 @@ module _ (format offset number : ℕ) (s : List ℕ) (a : Viewed) (v : Nexts for
 
       pub frame-known : (known (x .«frame_type») ≡ true) × (octets f (x .«frame_type») ≤ length (take (length s - offset) (drop offset s)))
       frame-known =
-          let w = next-shown format f s found number offset y (a .number) (a .offset) shown-frame in
+          let w = next-shown format s f found number offset y (a .number) (a .offset) shown-frame in
           let k = read-known false f (drop offset s) y (w .0) (w .2) in
           (k .0, subst (λ l. octets f (x .«frame_type») ≤ length l) (sym part-is) (k .1))
 

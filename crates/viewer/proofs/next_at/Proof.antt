@@ -2,7 +2,7 @@
 use borrow.Author.Needs.{needs}
 use native.Mathlib.Omega.{arith}
 use Rattle.frame.specs.Answers.{formatOf}
-use Rattle.recordings.proofs.Viewer.{next-unknown, next-past, next-above}
+use Rattle.recordings.proofs.ViewCalls.{next-unknown, next-past, next-above}
 use Rattle.recording_reader.proofs.ScanLaws.{part-read}
 use Rattle.recording_reader.proofs.CallLaws.{found-is, found-none}
 use Rattle.viewer.proofs.NextLaws.{out-next, end-next, refused-next, next-within, frame-next}
@@ -38,7 +38,7 @@ returns-2 c =
     let f = c .before .before .before .f .given in
     let i = found-is (a .format) (n .result) (f .0 .0) (n .ensures) (f .1) in
     out-next (a .format) (a .offset) (a .number) (a .rec .now) (c .out-of-range2 .result) (c .out-of-range2 .ensures)
-    (next-past (a .format) (formatOf (f .0 .0)) (a .rec .now) i (a .number) (a .offset) (c .before .if1 .taken))
+    (next-past (a .format) (a .rec .now) (formatOf (f .0 .0)) i (a .number) (a .offset) (c .before .if1 .taken))
 
 out-of-range-requires-3 : tie.Need-out-of-range-requires-3
 out-of-range-requires-3 c κs = search needs
@@ -50,7 +50,7 @@ returns-3 c =
     let f = c .before .before .before .before .f .given in
     let i = found-is (a .format) (n .result) (f .0 .0) (n .ensures) (f .1) in
     out-next (a .format) (a .offset) (a .number) (a .rec .now) (c .out-of-range3 .result) (c .out-of-range3 .ensures)
-    (next-above (a .format) (formatOf (f .0 .0)) (a .rec .now) i (a .number) (a .offset) (c .before .before .if1 .left) (c .before .if2 .taken))
+    (next-above (a .format) (a .rec .now) (formatOf (f .0 .0)) i (a .number) (a .offset) (c .before .before .if1 .left) (c .before .if2 .taken))
 
 stays-requires : tie.Need-stays-requires
 stays-requires c κs = search needs

@@ -58,7 +58,7 @@ sub-core-out c =
     let n = c .before .before .before .format-numbered in
     let f = c .before .f .given in
     let i = found-is (a .format) (n .result) (f .0 .0) (n .ensures) (f .1) in
-    offset-within (a .format) (a .offset) (a .number) (a .rec .now) (v .result) (v .ensures) (x .0 .0) (x .1) (formatOf (f .0 .0)) i
+    omega (arith, offset-within (a .format) (a .offset) (a .number) (a .rec .now) (v .result) (v .ensures) (x .0 .0) (x .1) (formatOf (f .0 .0)) i)
 
 part-core-out-start : tie.Need-part-core-out-start
 part-core-out-start c =
@@ -68,7 +68,7 @@ part-core-out-start c =
     let n = c .before .before .before .format-numbered in
     let f = c .before .f .given in
     let i = found-is (a .format) (n .result) (f .0 .0) (n .ensures) (f .1) in
-    offset-within (a .format) (a .offset) (a .number) (a .rec .now) (v .result) (v .ensures) (x .0 .0) (x .1) (formatOf (f .0 .0)) i
+    omega (arith, offset-within (a .format) (a .offset) (a .number) (a .rec .now) (v .result) (v .ensures) (x .0 .0) (x .1) (formatOf (f .0 .0)) i)
 
 part-core-out-end : tie.Need-part-core-out-end
 part-core-out-end c = search needs

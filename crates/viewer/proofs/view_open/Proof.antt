@@ -4,7 +4,7 @@ use mathlib.Core.Path.{sym, _∙_}
 use borrow.Author.Tests.{not-true, not-false}
 use Rattle.frame.specs.Answers.{formatOf}
 use Rattle.recording_reader.proofs.CallLaws.{found-is, found-none}
-use Rattle.viewer.proofs.OpenLaws.{open-unknown, open-too-long, open-not-headed, open-first}
+use Rattle.recordings.proofs.ViewCalls.{open-unknown, open-too-long, open-not-headed, open-first}
 use Rattle.viewer.proofs.view_open.Statement.{statement}
 use Rattle.viewer.proofs.view_open.Tie as tie
 
@@ -21,14 +21,16 @@ returns : tie.Need-returns
 returns c =
     let a = c .before .before .before .before .args in
     let n = c .before .before .format-numbered in
-    open-unknown (a .format) (a .rec .now) (found-none (a .format) (n .result) (n .ensures) (c .enum-told .given .1))
+    sym
+    (open-unknown (a .format) (a .rec .now) (found-none (a .format) (n .result) (n .ensures) (c .enum-told .given .1)))
 
 returns-2 : tie.Need-returns-2
 returns-2 c =
     let a = c .before .before .before .before .before .before .args in
     let n = c .before .before .before .before .format-numbered in
     let f = c .before .before .f .given in
-    open-too-long (a .format) (a .rec .now) (formatOf (f .0 .0)) (found-is (a .format) (n .result) (f .0 .0) (n .ensures) (f .1)) (c .if1 .taken)
+    sym
+    (open-too-long (a .format) (a .rec .now) (formatOf (f .0 .0)) (found-is (a .format) (n .result) (f .0 .0) (n .ensures) (f .1)) (c .if1 .taken))
 
 headed-requires : tie.Need-headed-requires
 headed-requires c κs = search needs
@@ -38,8 +40,9 @@ returns-3 c =
     let a = c .before .before .before .before .before .before .before .before .args in
     let n = c .before .before .before .before .before .before .format-numbered in
     let f = c .before .before .before .before .f .given in
-    open-not-headed (a .format) (a .rec .now) (formatOf (f .0 .0)) (found-is (a .format) (n .result) (f .0 .0) (n .ensures) (f .1)) (c .before .before .if1 .left)
-    (sym (c .before .headed .ensures) ∙ not-true _ (c .if2 .taken))
+    sym
+    (open-not-headed (a .format) (a .rec .now) (formatOf (f .0 .0)) (found-is (a .format) (n .result) (f .0 .0) (n .ensures) (f .1)) (c .before .before .if1 .left)
+    (sym (c .before .headed .ensures) ∙ not-true _ (c .if2 .taken)))
 
 header-octets-requires : tie.Need-header-octets-requires
 header-octets-requires c κs = search needs
@@ -49,8 +52,9 @@ returns-4 c =
     let a = c .before .before .before .before .before .before .before .before .before .args in
     let n = c .before .before .before .before .before .before .before .format-numbered in
     let f = c .before .before .before .before .before .f .given in
-    open-first (a .format) (a .rec .now) (formatOf (f .0 .0)) (found-is (a .format) (n .result) (f .0 .0) (n .ensures) (f .1)) _ (c .before .before .before .if1 .left)
-    (sym (c .before .before .headed .ensures) ∙ not-false _ (c .before .if2 .left)) (c .header-octets .ensures .0)
+    sym
+    (open-first (a .format) (a .rec .now) (formatOf (f .0 .0)) (found-is (a .format) (n .result) (f .0 .0) (n .ensures) (f .1)) _ (c .before .before .before .if1 .left)
+    (sym (c .before .before .headed .ensures) ∙ not-false _ (c .before .if2 .left)) (c .header-octets .ensures .0))
 
 pub view-open-spec : {M : Type 1} → statement M
 view-open-spec =
