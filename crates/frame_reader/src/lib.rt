@@ -1,5 +1,5 @@
 // Reading one frame. Each test of document 01's order is one function, whose answer equals the definition's test; `judge` makes them
-// in that order. `read_frame` is an entry; `read_front`, `type_in` and `quality_in` are `pub` for the crates that go over recordings.
+// in that order. `read_frame` is an entry; `read_front`, `core_out`, `type_in` and `quality_in` are `pub` for the crates that go over recordings.
 use frame::Format;
 use frame::FormatFound;
 use frame::FrameHeader;
@@ -272,8 +272,8 @@ pub fn read_front(f: Format, s: &[u8]) -> Reading
     judge(false, f, s)
 }
 
-// Puts the core of the frame at the start of `s`, whose header is `h`, packed into the buffer, if that has room.
-fn core_out(f: Format, s: &[u8], h: FrameHeader, core: &mut [u8]) -> Reading
+// Puts the core of the frame at the start of `s`, whose header is `h`, packed into the buffer, if that has room. `pub` for the viewer.
+pub fn core_out(f: Format, s: &[u8], h: FrameHeader, core: &mut [u8]) -> Reading
     requires { ⌜ (known (h .«frame_type») ≡ true) × (octets (formatOf f) (h .«frame_type») ≤ length (now s)) ⌝ }
     ensures { λ r. ⌜ IntoBuffer (intoBuffer (frameWith h (coreIn (formatOf f) (h .«frame_type») (bits (now (s .entry))))) (length (now (core .entry)))) (now (core .entry)) (now (core .exit)) r ⌝ }
 {

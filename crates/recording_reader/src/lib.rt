@@ -60,8 +60,8 @@ pub fn has_file_header(s: &[u8]) -> bool
     true
 }
 
-// The recording begins with its format's file header.
-fn headed(f: Format, s: &[u8]) -> bool
+// The recording begins with its format's file header. `pub` for the viewer, which judges it alone.
+pub fn headed(f: Format, s: &[u8]) -> bool
     ensures { λ r. ⌜ r ≡ headed (formatOf f) (now (s .entry)) ⌝ }
 {
     match f {

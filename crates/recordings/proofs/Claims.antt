@@ -40,14 +40,14 @@ pub unless-done : {A : Type 0} (n : ℕ) (b : Bool) (w : Placed A) (a : A) → u
 unless-done n true w a h = (refl, h)
 unless-done n false w a h = not-done n 0 0 a h
 
-unless-refused : {A : Type 0} (n m k at : ℕ) (b : Bool) (w : Placed A) → m ≤ 7 → 8 ≤ n → unlessAt n b w ≡ refusedAt m k at
+pub unless-refused : {A : Type 0} (n m k at : ℕ) (b : Bool) (w : Placed A) → m ≤ 7 → 8 ≤ n → unlessAt n b w ≡ refusedAt m k at
     → (b ≡ true) × (w ≡ refusedAt m k at)
 unless-refused n m k at true w l g h = (refl, h)
 unless-refused n m k at false w l g h = absurd (let e : n ≡ m = cc in omega arith)
 
 -- ---- whole recordings
 
-read-recording : (f : Format) (s : List ℕ) (xs : List Frame) → Octets s → readRecording f s ≡ done xs → IsRecording f s xs
+pub read-recording : (f : Format) (s : List ℕ) (xs : List Frame) → Octets s → readRecording f s ≡ done xs → IsRecording f s xs
 unfolding readRecording writeRecording
 read-recording f s xs o h =
     let n = length (fileHeader f) in
@@ -71,7 +71,7 @@ recording-read f xs r =
     ∙ ap (scan f 0 0 n) d
     ∙ layouts-scan f 0 n xs (r .valid)
 
-is-read : (f : Format) (s : List ℕ) (xs : List Frame) → IsRecording f s xs → readRecording f s ≡ done xs
+pub is-read : (f : Format) (s : List ℕ) (xs : List Frame) → IsRecording f s xs → readRecording f s ≡ done xs
 is-read f s xs r = ap (readRecording f) (r .laid) ∙ recording-read f xs (subst (λ z. IsRecording f z xs) (r .laid) r)
 
 stops : (f : Format) (s : List ℕ) (n k at : ℕ) → Octets s → n ≤ 7 → readRecording f s ≡ refusedAt n k at → StopsAt f s n k at

@@ -5,5 +5,8 @@ pub mod Returning
 pub mod Trips
 pub mod Apart
 pub mod Demand3
+pub mod ViewCalls
+pub mod Viewer
 pub mod Report
 mod Wrong
+mod WrongViewers

@@ -68,7 +68,7 @@ before-done : (x : Frame) (w : Placed (List Frame)) (xs : List Frame) → before
 before-done x (refusedAt n k at) xs h = not-done n k at xs h
 before-done x (done ys) xs h = (ys, refl, cc)
 
-before-refused : (x : Frame) (w : Placed (List Frame)) (n k at : ℕ) → before x w ≡ refusedAt n k at → w ≡ refusedAt n k at
+pub before-refused : (x : Frame) (w : Placed (List Frame)) (n k at : ℕ) → before x w ≡ refusedAt n k at → w ≡ refusedAt n k at
 before-refused x (refusedAt n′ k′ at′) n k at h = h
 before-refused x (done ys) n k at h = not-refused n k at (x ∷ ys) h
 

@@ -43,7 +43,7 @@ octets-recording f xs = octets-append (fileHeader f) (layouts f xs) (octets-head
 
 -- ---- a call that refuses nothing
 
-format-numbered : (f : Format) → formatNumbered (formatNumber f) ≡ ok f
+pub format-numbered : (f : Format) → formatNumbered (formatNumber f) ≡ ok f
 format-numbered if1 = refl
 format-numbered if2 = refl
 format-numbered storage = refl

@@ -1,8 +1,9 @@
 -- The viewer (document 01, "Recordings and conversion", last paragraph).
 use mathlib.Core.Path.{_≡_}
+use mathlib.Core.Logic.{_⊎_}
 use mathlib.Core.Bool.{_&&_, cond}
 use mathlib.Core.List.{List, [], _∷_, _++_, map}
-use Prim.Native.Nat.{ℕ, zero, suc, _+_, _≤_}
+use Prim.Native.Nat.{ℕ, zero, suc, _+_, _<_, _≤_}
 use lib.ListN.{length, take, drop, replicate}
 use lib.Dec.{eqb, leb}
 use Rattle.bits.specs.Bits.{Octets, pack}
@@ -83,9 +84,29 @@ pub record Hands (opening : Opener) (next : Stepper) (f : Format) (s : List ℕ)
   pub hands : (m : ℕ) → inTurn (λ p. next (formatNumber f) (p .1) (p .0) s) m place ≡ take m (map frame xs ++ replicate m last)
 
 -- demand 2, of a viewer: of a valid recording it hands out exactly the list of frames, then the end; of another the frames in front of the
--- first refused one, then its refusal; what the file header's check or the limit refuses is not opened
+-- first refused one, then its refusal; what the file header's check or the limit refuses is not opened; "an offset past the recording, or a frame
+-- number above the offset, is 11"
 pub record ViewsRecordings (opening : Opener) (next : Stepper) : Type 0 where
   pub valid : (f : Format) (s : List ℕ) (xs : List Frame) → Octets s → readRecording f s ≡ done xs → Hands opening next f s xs the-end
   pub stopped : (f : Format) (s : List ℕ) (n k at : ℕ) → Octets s → n ≤ 7 → readRecording f s ≡ refusedAt n k at
       → (p : StopsAt f s n k at) → Hands opening next f s (p .xs) (refusal n k at)
   pub unopened : (f : Format) (s : List ℕ) (n k at : ℕ) → 8 ≤ n → readRecording f s ≡ refusedAt n k at → opening (formatNumber f) s ≡ refusedAt n k at
+  pub judges : (format offset number : ℕ) (s : List ℕ) → (length s < offset) ⊎ (offset < number) → next format offset number s ≡ refusedAt 11 0 0
+
+-- ---- what is not such a viewer
+
+-- one that goes on behind a refused frame's first octet
+abbrev pub orElse : Placed View → Placed View → Placed View
+orElse (refusedAt n k at) w = w
+orElse (done v) w = done v
+
+abbrev pub passesRefused : Stepper
+passesRefused format offset number s = orElse (nextCall format offset number s) (nextCall format (suc offset) (suc number) s)
+
+-- one that shows every second frame only
+abbrev pub frameBehind : (format : ℕ) → List ℕ → View → Placed View
+frameBehind format s (shows x number offset) = nextCall format offset number s
+frameBehind format s end = done end
+
+abbrev pub skipsFrames : Stepper
+skipsFrames format offset number s = andThenAt (nextCall format offset number s) (frameBehind format s)
