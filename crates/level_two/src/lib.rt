@@ -2,25 +2,32 @@
 // Every export is an entry.
 ghost use mathlib.Core.Path.{_≡_};
 ghost use lib.ListN.{length};
-ghost use Rattle.definitions.specs.Frames.{if1, if2, storage};
+ghost use Rattle.definitions.specs.Frames.{if1, if2, storage, coreOctets};
 ghost use Rattle.definitions.specs.Reading.{readCall, buildFrame};
 ghost use Rattle.definitions.specs.Order.{toCoreCall, toRowCall};
 ghost use Rattle.definitions.specs.Reception.{receptionClass};
 ghost use Rattle.recordings.specs.Recordings.{validateCall};
 ghost use Rattle.recordings.specs.Conversion.{convertCall, lengthCall};
+ghost use Rattle.recordings.specs.Viewer.{openCall, viewCall};
 ghost use Rattle.recordings.specs.Report.{reportCall};
 ghost use Rattle.answers.specs.Flat.{placedNumbers, FlatConversion, FlatOutput};
-ghost use Rattle.level_two.specs.Flat.{FlatFrame, speechNumber, sidNumber, classNumber, classNumbers, reportNumbers};
+ghost use Rattle.level_two.specs.Flat.{FlatFrame, speechNumber, sidNumber, classNumber, classNumbers, unshown, openNumbers, FlatView, reportNumbers};
 ghost use Rattle.reception.specs.Classes.{speechOf, sidOf, receptionOf};
 use answers::Answer;
 use answers::built_answer;
 use answers::counts_answer;
 use frame::Reading;
+use frame::table::core_octets;
 use reception::Classified;
 use reception::Reception;
 use reception::SidClass;
 use reception::SpeechClass;
+use recording_reader::Counts;
 use report::Reported;
+use viewer::Shown;
+
+// The highest type that has a core.
+const SID: u8 = frame::SID as u8;
 
 #[repr(C)]
 pub struct FrameAnswer {
@@ -40,6 +47,21 @@ pub struct ClassAnswer {
     pub frame: u64,
     pub octet: u64,
     pub class: u64,
+}
+
+#[repr(C)]
+pub struct ViewAnswer {
+    pub refusal: u64,
+    pub frame: u64,
+    pub octet: u64,
+    pub end: u64,
+    pub frame_type: u64,
+    pub quality: u64,
+    pub indication: u64,
+    pub request: u64,
+    pub core_octets: u64,
+    pub offset: u64,
+    pub number: u64,
 }
 
 #[repr(C)]
@@ -209,6 +231,80 @@ pub extern "C" fn amrwb_class(frame_type: u64, quality: u64, sti: u64) -> ClassA
             octet: 0,
             class: 0,
         },
+    }
+}
+
+// A viewer's answer that shows no frame.
+fn unshown(refusal: u64, frame: u64, octet: u64, end: u64, number: u64, offset: u64) -> ViewAnswer
+    ensures { λ r. ⌜ r ≡ unshown refusal frame octet end number offset ⌝ }
+{
+    ViewAnswer {
+        refusal,
+        frame,
+        octet,
+        end,
+        frame_type: 0,
+        quality: 0,
+        indication: 0,
+        request: 0,
+        core_octets: 0,
+        offset,
+        number,
+    }
+}
+
+// The octets of a packed core; types above 9 have none.
+fn packed_octets(t: u8) -> u64
+    ensures { λ r. ⌜ r ≡ coreOctets t ⌝ }
+{
+    if t <= SID {
+        return core_octets(t as usize) as u64;
+    }
+    0
+}
+
+#[no_mangle]
+pub extern "C" fn amrwb_view_open(format: u64, rec: &[u8]) -> ViewAnswer
+    ensures { λ r. ⌜ r ≡ openNumbers (openCall format (now (rec .entry))) ⌝ }
+{
+    match viewer::view_open(format, rec) {
+        Counts::Done(number, offset) => unshown(0, 0, 0, 0, number as u64, offset as u64),
+        Counts::Refused(e, k, at) => {
+            unshown(frame::refusal_number(e), k as u64, at as u64, 0, 0, 0)
+        }
+    }
+}
+
+#[no_mangle]
+pub extern "C" fn amrwb_view_next(
+    format: u64,
+    offset: u64,
+    number: u64,
+    rec: &[u8],
+    core: &mut [u8],
+) -> ViewAnswer
+    ensures { λ r. ⌜ FlatView (viewCall format offset number (now (rec .entry)) (length (now (core .entry)))) (number, offset) (now (core .entry)) (now (core .exit)) r ⌝ }
+{
+    let a = viewer::view_next(format, offset, number, rec, core);
+    let s = a.shown;
+    match s {
+        Shown::Frame(h) => ViewAnswer {
+            refusal: 0,
+            frame: 0,
+            octet: 0,
+            end: 0,
+            frame_type: h.frame_type as u64,
+            quality: h.quality as u64,
+            indication: h.indication as u64,
+            request: h.request as u64,
+            core_octets: packed_octets(h.frame_type),
+            offset: a.offset,
+            number: a.number,
+        },
+        Shown::End => unshown(0, 0, 0, 1, a.number, a.offset),
+        Shown::Refused(e, k, at) => {
+            unshown(frame::refusal_number(e), k, at, 0, a.number, a.offset)
+        }
     }
 }
 

@@ -9,7 +9,7 @@ use reception::class_of;
 use recording_reader::has_file_header;
 use recording_reader::header_octets;
 ghost use mathlib.Core.Path.{_≡_};
-ghost use Prim.Native.Nat.{ℕ, _≤_};
+ghost use Prim.Native.Nat.{_≤_};
 ghost use lib.ListN.{length};
 ghost use Rattle.definitions.specs.Frames.{storage};
 ghost use Rattle.recordings.specs.Placed.{refusedAt, done, andThenAt};

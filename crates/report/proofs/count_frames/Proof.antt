@@ -4,12 +4,11 @@ use mathlib.Core.Bool.{false}
 use Prim.Native.Nat.{_+_, _-_, _≤_}
 use native.Mathlib.Omega.{arith}
 use borrow.Author.Needs.{needs}
-use lib.ListN.{length, drop, length-drop}
+use lib.ListN.{length, drop}
 use Rattle.bits.specs.Bits.{bits}
 use Rattle.definitions.specs.Outcome.{ok}
 use Rattle.definitions.specs.Frames.{storage, Frame, coreIn}
 use Rattle.definitions.specs.Reading.{readFrame}
-use Rattle.definitions.proofs.Frames.{read-known}
 use Rattle.frame.specs.Answers.{numberOf, frameWith, readingOf}
 use Rattle.recording_reader.proofs.ScanLaws.{part-read}
 use Rattle.report.specs.Answers.{countsOf}

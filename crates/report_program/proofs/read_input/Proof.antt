@@ -1,6 +1,6 @@
 -- `report_program::read_input` meets its contract: no read brings more than there is room for. It ends since each read that goes on fills some
 -- of the buffer. Assumes nothing.
-use mathlib.Core.Path.{_≡_, sym, ap, _∙_}
+use mathlib.Core.Path.{_≡_, _∙_}
 use Prim.Native.Nat.{ℕ, _+_, _-_, _≤_}
 use native.Mathlib.Omega.{arith}
 use borrow.Author.Needs.{needs}
