@@ -1,5 +1,6 @@
 // Reading one frame. Each test of document 01's order is one function, whose answer equals the definition's test; `judge` makes them
-// in that order. `read_frame` is an entry; `read_front`, `core_out`, `type_in` and `quality_in` are `pub` for the crates that go over recordings.
+// in that order. `read_frame` is an entry; `read_front`, `core_out`, `type_in` and `quality_in` are `pub` for the crates that go over
+// recordings.
 use frame::Format;
 use frame::FormatFound;
 use frame::FrameHeader;

@@ -47,13 +47,13 @@ module _ (format : ℕ) (s : List ℕ) where
     unfolding openCall
     open-first n h e en = rw (found, le-leb (length s) limit h, e, en)
 
+    pub next-past : (k at : ℕ) → length s < at → nextCall format at k s ≡ refusedAt 11 0 0
+    unfolding nextCall
+    next-past k at l = rw (found, ne-eqb at (length s) (λ q. omega arith), lt-leb at (length s) l)
+
     pub next-above : (k at : ℕ) → at ≤ length s → at < k → nextCall format at k s ≡ refusedAt 11 0 0
     unfolding nextCall
     next-above k at l h = rw (found, le-leb at (length s) l, lt-leb k at h)
-
-    pub next-past : (k at : ℕ) → length s < at → nextCall format at k s ≡ refusedAt 11 0 0
-    unfolding nextCall
-    next-past k at l = rw (found, lt-leb at (length s) l)
 
     pub next-end : (k at : ℕ) → at ≡ length s → k ≤ at → nextCall format at k s ≡ done end
     unfolding nextCall

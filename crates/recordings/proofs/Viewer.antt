@@ -25,7 +25,7 @@ use Rattle.recordings.specs.Viewer.{View, shows, openCall, nextCall, Han
 use Rattle.recordings.proofs.Scan.{not-refused, before-refused}
 use Rattle.recordings.proofs.Claims.{unless-done, unless-refused, read-recording, is-read}
 use Rattle.recordings.proofs.Trips.{format-numbered}
-use Rattle.recordings.proofs.ViewCalls.{open-too-long, open-not-headed, open-first, unknown-number, next-unknown, next-past, next-above, next-end, next-frame}
+use Rattle.recordings.proofs.ViewCalls.{open-unknown, open-too-long, open-not-headed, open-first, unknown-number, next-unknown, next-past, next-above, next-end, next-frame}
 
 -- ---- lists that end in one element again and again
 
@@ -192,4 +192,10 @@ judges format offset number s h = go (formatNumbered format) refl (leb offset (l
     go (ok f) e true l = ⊎-elim (λ p. absurd (omega (arith, leb-true offset (length s) l))) (λ p. next-above format s f e number offset (leb-true _ _ l) p) h
 
 pub views-recordings : ViewsRecordings openCall nextCall
-views-recordings = record { valid = valid; stopped = stopped; unopened = unopened; judges = judges }
+views-recordings = record {
+  valid = valid;
+  stopped = stopped;
+  unopened = unopened;
+  unknown = λ format offset number s e. (open-unknown format s e, next-unknown format s number offset e);
+  judges = judges;
+}

@@ -7,6 +7,7 @@ use Prim.Native.Nat.{ℕ, zero, suc, _+_, _<_, _≤_}
 use lib.ListN.{length, take, drop, replicate}
 use lib.Dec.{eqb, leb}
 use Rattle.bits.specs.Bits.{Octets, pack}
+use Rattle.definitions.specs.Outcome.{refused}
 use Rattle.definitions.specs.Frames.{Format, Frame}
 use Rattle.definitions.specs.Reading.{readFrame, formatNumbered, intoBuffer, overwritten}
 use Rattle.recordings.specs.Placed.{Placed, refusedAt, done, unlessAt, andThenAt, placed}
@@ -84,13 +85,15 @@ pub record Hands (opening : Opener) (next : Stepper) (f : Format) (s : List ℕ)
   pub hands : (m : ℕ) → inTurn (λ p. next (formatNumber f) (p .1) (p .0) s) m place ≡ take m (map frame xs ++ replicate m last)
 
 -- demand 2, of a viewer: of a valid recording it hands out exactly the list of frames, then the end; of another the frames in front of the
--- first refused one, then its refusal; what the file header's check or the limit refuses is not opened; "an offset past the recording, or a frame
--- number above the offset, is 11"
+-- first refused one, then its refusal; what the file header's check or the limit refuses is not opened. A format that is not known is 11, and so is "an
+-- offset past the recording, or a frame number above the offset"
 pub record ViewsRecordings (opening : Opener) (next : Stepper) : Type 0 where
   pub valid : (f : Format) (s : List ℕ) (xs : List Frame) → Octets s → readRecording f s ≡ done xs → Hands opening next f s xs the-end
   pub stopped : (f : Format) (s : List ℕ) (n k at : ℕ) → Octets s → n ≤ 7 → readRecording f s ≡ refusedAt n k at
       → (p : StopsAt f s n k at) → Hands opening next f s (p .xs) (refusal n k at)
   pub unopened : (f : Format) (s : List ℕ) (n k at : ℕ) → 8 ≤ n → readRecording f s ≡ refusedAt n k at → opening (formatNumber f) s ≡ refusedAt n k at
+  pub unknown : (format offset number : ℕ) (s : List ℕ) → formatNumbered format ≡ refused 11
+      → (opening format s ≡ refusedAt 11 0 0) × (next format offset number s ≡ refusedAt 11 0 0)
   pub judges : (format offset number : ℕ) (s : List ℕ) → (length s < offset) ⊎ (offset < number) → next format offset number s ≡ refusedAt 11 0 0
 
 -- ---- what is not such a viewer
