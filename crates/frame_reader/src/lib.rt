@@ -1,6 +1,5 @@
 // Reading one frame. Each test of document 01's order is one function, whose answer equals the definition's test; `judge` makes them
-// in that order. `read_frame` is an entry; `read_front`, `core_out`, `type_in` and `quality_in` are `pub` for the crates that go over
-// recordings.
+// in that order. `read_frame` is an entry; the other `pub` functions are for the crates that go over recordings.
 use frame::Format;
 use frame::FormatFound;
 use frame::FrameHeader;
@@ -270,6 +269,14 @@ pub fn read_front(f: Format, s: &[u8]) -> Reading
         };
         return Reading::Frame(h, n);
     }
+    judge(false, f, s)
+}
+
+// The same for the viewer and the report. `read_front` is for the scan of a conversion alone, since only a function with one caller
+// becomes part of it.
+pub fn read_next(f: Format, s: &[u8]) -> Reading
+    ensures { λ r. ⌜ readingOf (λ t. coreIn (formatOf f) t (bits (now (s .entry)))) r ≡ readFrame (formatOf f) (now (s .entry)) ⌝ }
+{
     judge(false, f, s)
 }
 

@@ -3,7 +3,7 @@
 use frame::Format;
 use frame::Reading;
 use frame::Refusal;
-use frame_reader::read_front;
+use frame_reader::read_next;
 use reception::Reception;
 use reception::class_of;
 use recording_reader::has_file_header;
@@ -90,7 +90,7 @@ fn count_frames(s: &[u8]) -> Reported
         no_data: 0,
     };
     while at < s.len() {
-        let r = read_front(Format::Storage, &s[at..]);
+        let r = read_next(Format::Storage, &s[at..]);
         let Reading::Frame(h, n) = r else {
             return handed_on(r, c.frames, at);
         };

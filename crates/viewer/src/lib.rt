@@ -7,7 +7,7 @@ use frame::Reading;
 use frame::Refusal;
 use frame::format_numbered;
 use frame_reader::core_out;
-use frame_reader::read_front;
+use frame_reader::read_next;
 use recording_reader::Counts;
 use recording_reader::LIMIT;
 use recording_reader::headed;
@@ -78,7 +78,7 @@ pub fn next_at(rec: &[u8], format: u64, offset: u64, number: u64) -> Viewed
         return stays(Shown::End, number, offset);
     }
     let at = offset as usize;
-    let r = read_front(f, &rec[at..]);
+    let r = read_next(f, &rec[at..]);
     match r {
         Reading::Refused(e) => stays(Shown::Refused(e, number, offset), number, offset),
         Reading::Frame(h, n) => Viewed {

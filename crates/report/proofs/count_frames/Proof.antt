@@ -33,7 +33,7 @@ shown-there : (c : tie.After-known-told Inv-loop μ-loop) → readFrame storage 
 shown-there c =
     let s = c .before .before .before .before .before .before .before .before .before .args .s .now in
     let at = c .before .before .before .before .before .before .loop .at in
-    sym (part-read storage s at (c .before .before .before .read-front .result) (c .before .before .before .read-front .ensures)) ∙ ap (readingOf (λ t. coreIn storage t (bits (drop at s)))) (c .before .r .given .1)
+    sym (part-read storage s at (c .before .before .before .read-next .result) (c .before .before .before .read-next .ensures)) ∙ ap (readingOf (λ t. coreIn storage t (bits (drop at s)))) (c .before .r .given .1)
 
 -- it is counted
 step-there : (c : tie.After-counted Inv-loop μ-loop)
@@ -51,17 +51,17 @@ header-octets-requires c κs = search needs
 loop-holds : tie.Need-loop-holds Inv-loop μ-loop
 loop-holds c = counted-start (c .before .before .args .s .now) _ (c .header-octets .ensures .0) (c .before .before .pre .0)
 
-sub-read-front : tie.Need-sub-read-front Inv-loop μ-loop
-sub-read-front c = search needs
+sub-read-next : tie.Need-sub-read-next Inv-loop μ-loop
+sub-read-next c = search needs
 
-part-read-front-start : tie.Need-part-read-front-start Inv-loop μ-loop
-part-read-front-start c = search needs
+part-read-next-start : tie.Need-part-read-next-start Inv-loop μ-loop
+part-read-next-start c = search needs
 
-part-read-front-end : tie.Need-part-read-front-end Inv-loop μ-loop
-part-read-front-end c = search needs
+part-read-next-end : tie.Need-part-read-next-end Inv-loop μ-loop
+part-read-next-end c = search needs
 
-read-front-requires : tie.Need-read-front-requires Inv-loop μ-loop
-read-front-requires c κs = search needs
+read-next-requires : tie.Need-read-next-requires Inv-loop μ-loop
+read-next-requires c κs = search needs
 
 enum-known-r : tie.Need-enum-known-r Inv-loop μ-loop
 enum-known-r c = search needs
@@ -79,7 +79,7 @@ returns c =
     let g = c .before .enum-told .given in
     c .handed-on .ensures (g .0 .0) (g .1)
     ∙ counted-stop s (l .at) (countsOf (l .c)) (numberOf (g .0 .0)) (omega arith)
-    (sym (part-read storage s (l .at) (c .before .before .before .read-front .result) (c .before .before .before .read-front .ensures)) ∙ ap (readingOf (λ t. coreIn storage t (bits (drop (l .at) s)))) (g .1)) (l .inv)
+    (sym (part-read storage s (l .at) (c .before .before .before .read-next .result) (c .before .before .before .read-next .ensures)) ∙ ap (readingOf (λ t. coreIn storage t (bits (drop (l .at) s)))) (g .1)) (l .inv)
 
 cast-class-of : tie.Need-cast-class-of Inv-loop μ-loop
 cast-class-of c = search needs
@@ -110,10 +110,10 @@ count-frames-spec =
     μ-loop
     header-octets-requires
     loop-holds
-    sub-read-front
-    part-read-front-start
-    part-read-front-end
-    read-front-requires
+    sub-read-next
+    part-read-next-start
+    part-read-next-end
+    read-next-requires
     enum-known-r
     enum-told
     handed-on-requires

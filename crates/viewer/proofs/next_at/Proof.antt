@@ -63,17 +63,17 @@ returns-4 c =
     let i = found-is (a .format) (n .result) (f .0 .0) (n .ensures) (f .1) in
     end-next (a .format) (a .offset) (a .number) (a .rec .now) (formatOf (f .0 .0)) i (c .stays .result) (c .stays .ensures) (c .before .if3 .taken) (c .before .before .if2 .left)
 
-sub-read-front : tie.Need-sub-read-front
-sub-read-front c = search needs
+sub-read-next : tie.Need-sub-read-next
+sub-read-next c = search needs
 
-part-read-front-start : tie.Need-part-read-front-start
-part-read-front-start c = search needs
+part-read-next-start : tie.Need-part-read-next-start
+part-read-next-start c = search needs
 
-part-read-front-end : tie.Need-part-read-front-end
-part-read-front-end c = search needs
+part-read-next-end : tie.Need-part-read-next-end
+part-read-next-end c = search needs
 
-read-front-requires : tie.Need-read-front-requires
-read-front-requires c κs = search needs
+read-next-requires : tie.Need-read-next-requires
+read-next-requires c κs = search needs
 
 enum-known-r : tie.Need-enum-known-r
 enum-known-r c = search needs
@@ -93,7 +93,7 @@ add-t24 c =
     let n = c .before .before .before .before .before .before .before .before .before .before .before .format-numbered in
     let f = c .before .before .before .before .before .before .before .before .before .f .given in
     let i = found-is (a .format) (n .result) (f .0 .0) (n .ensures) (f .1) in
-    let r = c .before .before .before .read-front in
+    let r = c .before .before .before .read-next in
     let g = c .before .r2 .given in
     omega (
       arith,
@@ -107,7 +107,7 @@ returns-5 c =
     let n = c .before .before .before .before .before .before .before .before .before .before .before .before .format-numbered in
     let f = c .before .before .before .before .before .before .before .before .before .before .f .given in
     let i = found-is (a .format) (n .result) (f .0 .0) (n .ensures) (f .1) in
-    let r = c .before .before .before .before .read-front in
+    let r = c .before .before .before .before .read-next in
     let g = c .before .before .r .given in
     refused-next (a .format) (a .offset) (a .number) (a .rec .now) (formatOf (f .0 .0)) i (omega arith) (omega arith) (r .result)
     (part-read (formatOf (f .0 .0)) (a .rec .now) (a .offset) (r .result) (r .ensures)) (g .0 .0) (g .1) (c .stays2 .result) (c .stays2 .ensures)
@@ -118,7 +118,7 @@ returns-6 c =
     let n = c .before .before .before .before .before .before .before .before .before .before .before .format-numbered in
     let f = c .before .before .before .before .before .before .before .before .before .f .given in
     let i = found-is (a .format) (n .result) (f .0 .0) (n .ensures) (f .1) in
-    let r = c .before .before .before .read-front in
+    let r = c .before .before .before .read-next in
     let g = c .before .r2 .given in
     frame-next (a .format) (a .offset) (a .number) (a .rec .now) (formatOf (f .0 .0)) i (omega arith) (omega arith) (r .result)
     (part-read (formatOf (f .0 .0)) (a .rec .now) (a .offset) (r .result) (r .ensures)) (g .0 .0) (g .0 .1 .0) (g .1)
@@ -138,10 +138,10 @@ next-at-spec =
     returns-3
     stays-requires
     returns-4
-    sub-read-front
-    part-read-front-start
-    part-read-front-end
-    read-front-requires
+    sub-read-next
+    part-read-next-start
+    part-read-next-end
+    read-next-requires
     enum-known-r
     stays-requires-2
     enum-known-r-2
