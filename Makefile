@@ -1,9 +1,14 @@
-.PHONY: demo test bench
+.PHONY: demo report test bench
 
 # converts a sample recording from storage format to IF1, to IF2 and back
 demo:
 	@tests/build demo
 	@target/tools/demo
+
+# the report on the stored recording on standard input
+report:
+	@tests/build report_program </dev/null
+	@target/bin/report_program
 
 # everything: proofs, must-fail edits, the compiled libraries against the second program
 test:
