@@ -58,14 +58,14 @@ fn main() {
     let first = printed::tables(&text("tests/tables/ts-26.201-b.txt"));
     let second = printed::tables(&text("tests/tables/g.722.2-e.txt"));
     let specification = text("crates/definitions/specs/Tables.antt");
-    let code = text("crates/codec_order/src/tables.rt");
+    let code = text("crates/order_tables/src/tables.rt");
     let baseline = text("benches/order.rs");
     let mut right = NAMED.iter().all(|(mode, j, number)| first[*mode].get(*j) == Some(number));
     for (mode, table) in first.iter().enumerate() {
         let once = each_once(table, BITS[mode]);
         let all = same("G.722.2 Annex E", mode, &second[mode], table)
             & same("the specification", mode, &of_specification(&specification, mode), table)
-            & same("codec_order", mode, &of_array(&code, mode), table)
+            & same("order_tables", mode, &of_array(&code, mode), table)
             & same("the benchmark", mode, &of_array(&baseline, mode), table);
         let holds = if once { "each number once" } else { "not each number once" };
         println!("table {mode}: {} numbers, {holds}, {} everywhere", table.len(), if all { "the same" } else { "not the same" });

@@ -1,20 +1,18 @@
 -- The ordering calls: which refusal comes where, and what a call that is not refused has found. Assumes nothing.
-use mathlib.Core.Path.{_≡_, refl, sym, ap, _∙_, subst}
+use mathlib.Core.Path.{_≡_, refl, sym, ap, _∙_}
 use mathlib.Core.Bool.{Bool, true, false, _&&_}
 use mathlib.Core.List.{List}
-use Prim.Native.Nat.{ℕ, zero, suc, _*_, _≤_, _<_}
-use native.Mathlib.Omega.{arith}
+use Prim.Native.Nat.{ℕ, _≤_, _<_}
 use lib.Dec.{eqb, leb}
-use lib.ListN.{length, take, length-map}
+use lib.ListN.{length, length-map}
 use borrow.Author.Tests.{leb-true, le-leb, lt-leb, eqb-true, eq-eqb, ne-eqb}
-use Rattle.bits.specs.Bits.{one-if, bits, pack, octetsFor}
+use Rattle.bits.specs.Bits.{one-if, pack, octetsFor}
 use Rattle.bits.proofs.BitLaws.{length-pack}
 use Rattle.bits.proofs.Tests.{and-left, and-right}
 use Rattle.definitions.specs.Outcome.{Outcome, refused, ok, unless}
 use Rattle.definitions.specs.Frames.{coreBits, coreOctets}
 use Rattle.definitions.specs.Reading.{bufferCore, coreFillClear, counted, overwritten, outputAfter}
 use Rattle.definitions.specs.Order.{orderTable, zeroOrOne, rowBits, rowOctets, ordered, unordered, toCoreCall, toRowCall}
-use Rattle.definitions.specs.Claims.{Permutes}
 use Rattle.definitions.proofs.Frames.{never}
 use Rattle.definitions.proofs.Order.{tables-permute, length-ordered, length-unordered}
 use Rattle.frame.specs.Answers.{numberOf, builtOf}
@@ -22,12 +20,9 @@ use Rattle.frame.specs.declared.Refusal.{Refusal}
 use Rattle.frame.specs.declared.Built.{Built}
 use Rattle.frame.specs.declared.Built.the-variants.{Octets, Refused}
 use Rattle.frame_builder.specs.Output.{IntoOutput}
-use Rattle.codec_order.specs.Ready.{RowReady, CoreReady, withCore, withRow}
+use Rattle.order_tables.specs.Ready.{RowReady, CoreReady, withCore, withRow}
 
--- ---- the tables
-
-pub permutes-as : (m k : ℕ) (table : List ℕ) → m ≤ 4 → k ≡ coreBits m → orderTable m ≡ table → Permutes k table
-permutes-as m k table h e t = subst (λ k. Permutes k table) (sym e) (subst (Permutes (coreBits m)) t (tables-permute .each m h))
+-- ---- how much is written
 
 core-size : (m : ℕ) (row : List ℕ) → m ≤ 4 → length (pack (ordered (orderTable m) (rowBits row))) ≡ coreOctets m
 core-size m row h =
@@ -152,38 +147,3 @@ module _ (o : Outcome (List ℕ)) (r : Built) (e : builtOf r ≡ counted o) (d�
 
   pub written-out : (m : ℕ) (w d : List ℕ) → r ≡ Octets m → o ≡ ok w → d ≡ overwritten w d₀ → IntoOutput o d₀ d (Octets m)
   written-out m w d h ow ed = record { answer = sym (ap builtOf h) ∙ e; buffer = ed ∙ ap (λ o. outputAfter o d₀) (sym ow) }
-
--- ---- the table that a mode's call is handed
-
-pub last-mode : (m : ℕ) → m ≤ 4 → (m ≡ 0 → ⊥) → (m ≡ 1 → ⊥) → (m ≡ 2 → ⊥) → (m ≡ 3 → ⊥) → m ≡ 4
-last-mode zero h n₀ n₁ n₂ n₃ = absurd (n₀ refl)
-last-mode (suc zero) h n₀ n₁ n₂ n₃ = absurd (n₁ refl)
-last-mode (suc (suc zero)) h n₀ n₁ n₂ n₃ = absurd (n₂ refl)
-last-mode (suc (suc (suc zero))) h n₀ n₁ n₂ n₃ = absurd (n₃ refl)
-last-mode (suc (suc (suc (suc m)))) h n₀ n₁ n₂ n₃ = omega arith
-
-module _ (m : ℕ) (table : List ℕ) (t : orderTable m ≡ table) where
-  pub core-asked : (row core : List ℕ) → RowReady m row core
-      → Permutes (length row) table × (zeroOrOne row ≡ true) × (octetsFor (length table) ≤ length core)
-  core-asked row core r =
-      let p = permutes-as m (coreBits m) table (r .has-order) refl t in (
-        permutes-as m (length row) table (r .has-order) (r .size) t,
-        r .values,
-        subst (λ k. octetsFor k ≤ length core) (sym (p .whole)) (r .room),
-      )
-
-  pub row-asked : (core row : List ℕ) → CoreReady m core row
-      → Permutes (length table) table × (length table ≤ 8 * length core) × (length table ≤ length row)
-  row-asked core row r =
-      let w = permutes-as m (coreBits m) table (r .has-order) refl t .whole in
-      (permutes-as m (length table) table (r .has-order) w t, omega (arith, r .size), omega (arith, r .room))
-
-  pub core-put : (row core₀ core : List ℕ) → core ≡ overwritten (pack (ordered table (rowBits row))) core₀ → core ≡ withCore m row core₀
-  core-put row core₀ core e = e ∙ ap (λ t. overwritten (pack (ordered t (rowBits row))) core₀) (sym t)
-
-  pub row-put : (core row₀ row : List ℕ) → CoreReady m core row₀
-      → row ≡ overwritten (rowOctets (unordered table (take (length table) (bits core)))) row₀ → row ≡ withRow m core row₀
-  row-put core row₀ row r e =
-      e
-      ∙ ap (λ k. overwritten (rowOctets (unordered table (take k (bits core)))) row₀) (permutes-as m (coreBits m) table (r .has-order) refl t .whole)
-      ∙ ap (λ t. overwritten (rowOctets (unordered t (bufferCore core m))) row₀) (sym t)

@@ -1,2 +1,1 @@
-mod OrderLaws
 mod CallLaws

@@ -254,8 +254,15 @@ fn plain_front(f: Format, s: &[u8]) -> usize
     }
 }
 
-// The frame at the start of `s`, where more may follow; its count is the octets that it takes. Plain frames come first: they are the most,
-// and this way is short enough to become part of the loop that calls it.
+// The frame at the start of `s`, where more may follow; its count is the octets that it takes.
+pub fn read_next(f: Format, s: &[u8]) -> Reading
+    ensures { λ r. ⌜ readingOf (λ t. coreIn (formatOf f) t (bits (now (s .entry)))) r ≡ readFrame (formatOf f) (now (s .entry)) ⌝ }
+{
+    judge(false, f, s)
+}
+
+// The same for the scan of a conversion, and for it alone: plain frames come first, since they are the most, and a function with one
+// caller becomes part of its loop.
 pub fn read_front(f: Format, s: &[u8]) -> Reading
     ensures { λ r. ⌜ readingOf (λ t. coreIn (formatOf f) t (bits (now (s .entry)))) r ≡ readFrame (formatOf f) (now (s .entry)) ⌝ }
 {
@@ -269,15 +276,7 @@ pub fn read_front(f: Format, s: &[u8]) -> Reading
         };
         return Reading::Frame(h, n);
     }
-    judge(false, f, s)
-}
-
-// The same for the viewer and the report. `read_front` is for the scan of a conversion alone, since only a function with one caller
-// becomes part of it.
-pub fn read_next(f: Format, s: &[u8]) -> Reading
-    ensures { λ r. ⌜ readingOf (λ t. coreIn (formatOf f) t (bits (now (s .entry)))) r ≡ readFrame (formatOf f) (now (s .entry)) ⌝ }
-{
-    judge(false, f, s)
+    read_next(f, s)
 }
 
 // Puts the core of the frame at the start of `s`, whose header is `h`, packed into the buffer, if that has room. `pub` for the viewer.

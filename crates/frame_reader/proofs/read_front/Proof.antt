@@ -22,8 +22,8 @@ returns c =
     let a = c .before .before .before .before .before .args in
     plain-reads (formatOf (a .f)) (a .s .now) (c .before .before .before .plain-front .result) (c .before .before .before .plain-front .ensures (c .before .before .if1 .taken)) _ (c .before .type-in .ensures) (c .quality-in .ensures) refl refl
 
-judge-requires : tie.Need-judge-requires
-judge-requires c κs = search needs
+read-next-requires : tie.Need-read-next-requires
+read-next-requires c κs = search needs
 
 returns-2 : tie.Need-returns-2
 returns-2 c = search needs
@@ -36,5 +36,5 @@ read-front-spec =
     type-in-requires
     quality-in-requires
     returns
-    judge-requires
+    read-next-requires
     returns-2)
