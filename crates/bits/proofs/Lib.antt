@@ -1,4 +1,3 @@
 pub mod BitLaws
 pub mod Tests
 mod Masks
-mod Groups

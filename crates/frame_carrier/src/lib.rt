@@ -43,7 +43,7 @@ fn move_by_three(src: &[u8], i: usize, c: usize, last: bool, out: &mut [u8], j: 
     requires { ⌜ (i + c < length (now src)) × (j + c + one-if last ≤ length (now out)) × (i ≤ 3) × (j ≤ 3) × (c ≤ 64) ⌝ }
     ensures { λ _. ⌜ ((w : List Bool) (z : ℕ) (r : List Bool) → Ends (now (src .entry)) i 3 c w z r → now (out .exit) ≡ take j (now (out .entry)) ++ (packs (c + one-if last) w ++ drop (j + (c + one-if last)) (now (out .entry)))) ⌝ }
 {
-    bits::copy_by_three(src, i, c, out, j);
+    bit_groups::copy_by_three(src, i, c, out, j);
     if last {
         out[j + c] = src[i + c] << 3;
     }
@@ -54,7 +54,7 @@ fn move_by_five(src: &[u8], i: usize, c: usize, last: bool, out: &mut [u8], j: u
     requires { ⌜ (i + c < length (now src)) × (j + c + one-if last ≤ length (now out)) × (i ≤ 3) × (j ≤ 3) × (c ≤ 64) ⌝ }
     ensures { λ _. ⌜ ((w : List Bool) (z : ℕ) (r : List Bool) → Ends (now (src .entry)) i 5 c w z r → now (out .exit) ≡ take j (now (out .entry)) ++ (packs (c + one-if last) w ++ drop (j + (c + one-if last)) (now (out .entry)))) ⌝ }
 {
-    bits::copy_by_five(src, i, c, out, j);
+    bit_groups::copy_by_five(src, i, c, out, j);
     if last {
         out[j + c] = src[i + c] << 5;
     }
@@ -96,7 +96,7 @@ fn over_whole(f: Format, g: Format, t: usize, src: &[u8], out: &mut [u8])
     ensures { λ _. ⌜ CoreMoved (formatOf f) (formatOf g) t (now (src .entry)) (now (out .entry)) (now (out .exit)) ⌝ }
 {
     let m = core_octets(t);
-    bits::copy_whole(src, core_at(f), m, out, core_at(g));
+    bit_groups::copy_whole(src, core_at(f), m, out, core_at(g));
 }
 
 // Moves the core of a frame of type `t`.

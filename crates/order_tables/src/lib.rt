@@ -1,5 +1,5 @@
-// The ordering tables of modes 0 to 4, and rows and cores put in order by them. `put_core` and `put_row` are `pub` for the crate of the calls;
-// they ask what the calls have judged.
+// The ordering tables of modes 0 to 4, and rows and cores put in order by them. `put_core` and `put_row` are `pub` for the crate of the
+// calls; they ask what the calls have judged.
 mod tables;
 
 use crate::tables::TABLE_0;
@@ -12,7 +12,8 @@ use ordering::row_by;
 ghost use mathlib.Core.Path.{_≡_};
 ghost use Rattle.order_tables.specs.Ready.{RowReady, CoreReady, withCore, withRow};
 
-// Row to core and core to row by the table of each mode. A function for each, since a function builds all tables that it names on the stack, at each call.
+// Row to core and core to row by the table of each mode. A function for each, since a function builds all tables that it names on its stack, at
+// each call.
 fn core_0(row: &[u8], core: &mut [u8])
     requires { ⌜ RowReady 0 (now row) (now core) ⌝ }
     ensures { λ _. ⌜ now (core .exit) ≡ withCore 0 (now (row .entry)) (now (core .entry)) ⌝ }

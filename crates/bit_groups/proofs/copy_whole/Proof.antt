@@ -1,12 +1,12 @@
--- `bits::copy_whole` meets its contract: two or four groups of 16 octets, the last of which ends the run; fewer are copied one by one.
+-- `bit_groups::copy_whole` meets its contract: two or four groups of 16 octets, the last of which ends the run; fewer are copied one by one.
 -- Assumes nothing.
 use borrow.Author.Needs.{needs}
 use mathlib.Core.Path.{_∙_}
 use Prim.Native.Nat.{_+_, _*_, _-_}
 use native.Mathlib.Omega.{arith}
-use Rattle.bits.proofs.Groups.{two-groups, four-groups}
-use Rattle.bits.proofs.copy_whole.Statement.{statement}
-use Rattle.bits.proofs.copy_whole.Tie as tie
+use Rattle.bit_groups.proofs.Groups.{two-groups, four-groups}
+use Rattle.bit_groups.proofs.copy_whole.Statement.{statement}
+use Rattle.bit_groups.proofs.copy_whole.Tie as tie
 
 each-whole-requires : tie.Need-each-whole-requires
 each-whole-requires c κs = search needs

@@ -1,12 +1,12 @@
--- `bits::copy_by_five` meets its contract: two or four groups of 16 octets, the last of which ends the run; fewer are copied one by one.
+-- `bit_groups::copy_by_three` meets its contract: two or four groups of 16 octets, the last of which ends the run; fewer are copied one by one.
 -- Assumes nothing.
 use borrow.Author.Needs.{needs}
 use mathlib.Core.Path.{_∙_}
 use Prim.Native.Nat.{_+_, _*_, _-_}
 use native.Mathlib.Omega.{arith}
-use Rattle.bits.proofs.Groups.{two-groups, four-groups}
-use Rattle.bits.proofs.copy_by_five.Statement.{statement}
-use Rattle.bits.proofs.copy_by_five.Tie as tie
+use Rattle.bit_groups.proofs.Groups.{two-groups, four-groups}
+use Rattle.bit_groups.proofs.copy_by_three.Statement.{statement}
+use Rattle.bit_groups.proofs.copy_by_three.Tie as tie
 
 each-shifted-requires : tie.Need-each-shifted-requires
 each-shifted-requires c κs = search needs
@@ -41,8 +41,8 @@ same-length-2 c = search needs
 returns-2 : tie.Need-returns-2
 returns-2 c =
     let a = c .before .before .before .before .before .before .before .before .before .before .before .before .args in
-    two-groups (a .src .now) (a .dst .now) _ (8 * a .i + 5) (a .j) (a .m) (omega arith) (omega arith) (omega arith) (c .before .before .before .before .before .before .before .group-shifted .kept .1 .1 .1 .0)
-    _ (8 * (a .i + a .m - 16) + 5) (a .j + a .m - 16) (omega arith) (omega arith) (omega arith) (c .before .before .before .before .before .before .before .group-shifted .ensures) (c .before .before .group-shifted2 .ensures)
+    two-groups (a .src .now) (a .dst .now) _ (8 * a .i + 3) (a .j) (a .m) (omega arith) (omega arith) (omega arith) (c .before .before .before .before .before .before .before .group-shifted .kept .1 .1 .1 .0)
+    _ (8 * (a .i + a .m - 16) + 3) (a .j + a .m - 16) (omega arith) (omega arith) (omega arith) (c .before .before .before .before .before .before .before .group-shifted .ensures) (c .before .before .group-shifted2 .ensures)
 
 add-group-shifted-3 : tie.Need-add-group-shifted-3
 add-group-shifted-3 c = search needs
@@ -91,12 +91,12 @@ returns-3 c =
     let a = c .before .before .before .before .before .before .before .before .before .before .before .before .before .before .before .before .before .before .before .before .args in
     let second = c .before .before .before .before .before .before .before .before .before .before .group-shifted3 in
     let third = c .before .before .before .before .before .before .group-shifted4 in
-    four-groups (a .src .now) (a .dst .now) _ (8 * a .i + 5) (a .j) (a .m) (omega arith) (omega arith) (omega arith) (c .before .before .before .before .before .before .before .before .before .before .before .before .before .before .before .group-shifted .kept .1 .1 .1 .0)
-    _ _ _ (8 * (a .i + 16) + 5) (a .j + 16) (8 * (a .i + a .m - 32) + 5) (a .j + a .m - 32) (8 * (a .i + a .m - 16) + 5) (a .j + a .m - 16) (omega arith) (omega arith) (omega arith) (omega arith) (omega arith) (omega arith) (omega arith) (omega arith)
+    four-groups (a .src .now) (a .dst .now) _ (8 * a .i + 3) (a .j) (a .m) (omega arith) (omega arith) (omega arith) (c .before .before .before .before .before .before .before .before .before .before .before .before .before .before .before .group-shifted .kept .1 .1 .1 .0)
+    _ _ _ (8 * (a .i + 16) + 3) (a .j + 16) (8 * (a .i + a .m - 32) + 3) (a .j + a .m - 32) (8 * (a .i + a .m - 16) + 3) (a .j + a .m - 16) (omega arith) (omega arith) (omega arith) (omega arith) (omega arith) (omega arith) (omega arith) (omega arith)
     (second .kept .1 .1 .1 .0) (third .kept .1 .1 .1 .0 ∙ second .kept .1 .1 .1 .0) (c .before .before .before .before .before .before .before .before .before .before .before .before .before .before .before .group-shifted .ensures) (second .ensures) (third .ensures) (c .before .before .group-shifted5 .ensures)
 
-pub copy-by-five-spec : {M : Type 1} → statement M
-copy-by-five-spec =
+pub copy-by-three-spec : {M : Type 1} → statement M
+copy-by-three-spec =
     tie.close
     (tie.spec
     each-shifted-requires
