@@ -1,17 +1,18 @@
 -- The octets that the builder stores are the layout: each header octet is its fields' digits, and the core is packed behind them. Each
 -- refusal of a building call follows from the tests made before it. Assumes nothing.
 use mathlib.Core.Path.{_≡_, refl, sym, ap, ap₂, _∙_}
-use mathlib.Core.Bool.{Bool, true, false}
+use mathlib.Core.Bool.{Bool, true, false, not, _||_}
 use mathlib.Core.List.{List, [], _∷_, _++_, append-assoc, append-nil}
 use Prim.Native.Nat.{ℕ, zero, suc, _+_, _-_, _*_, _<_, _≤_}
 use native.Mathlib.Nat.{add-zero, zero-lt-suc}
 use native.Mathlib.Omega.{arith}
-use lib.Dec.{eqb}
+use lib.Dec.{eqb, leb}
 use lib.ListN.{length, set, take, drop, length-drop}
 use lib.Seq.{drop-at, take-all, take-take, take-append-le, drop-set-lt, length-take-le}
-use borrow.Author.Tests.{le-leb, lt-leb, eq-eqb, ne-eqb}
+use borrow.Author.Tests.{le-leb, lt-leb, leb-true, eq-eqb, ne-eqb}
 use Rattle.bits.specs.Bits.{digits, num, clear, bits, pack, octetsFor, Octets}
 use Rattle.bits.proofs.BitLaws.{digits-join, length-digits, length-bits, bits-set, bits-take, pack-bits, pack-append, take-packed, octets-take, num-within}
+use Rattle.bits.proofs.Tests.{given, every-below}
 use Rattle.parity.specs.Crc.{crc}
 use Rattle.parity.proofs.Guarded.{octet-bits}
 use Rattle.definitions.specs.Outcome.{refused, ok, andThen}
@@ -109,11 +110,12 @@ long-header x o p c m eo ep ec =
     ∙ sym (header-joined (x .type) (x .quality) (x .indication) (x .request) l)
     ∙ ap₂ (λ j k. j ++ (k ++ l)) (sym eo) (sym ep) ∙ ap (λ k. digits 8 o ++ (digits 8 p ++ k)) (sym (append-nil (digits 8 c) ∙ ec))
 
-set-three : (d r : List ℕ) (o p c : ℕ) → 3 ≤ length d → set (set (set (take 3 d ++ r) 0 o) 1 p) 2 c ≡ o ∷ p ∷ c ∷ r
+set-three : (f r : List ℕ) (o p c : ℕ) → length f ≡ 3 → set (set (set (f ++ r) 0 o) 1 p) 2 c ≡ o ∷ p ∷ c ∷ r
 set-three [] r o p c h = absurd (omega arith)
 set-three (x ∷ []) r o p c h = absurd (omega arith)
 set-three (x ∷ y ∷ []) r o p c h = absurd (omega arith)
-set-three (x ∷ y ∷ z ∷ d) r o p c h = refl
+set-three (x ∷ y ∷ z ∷ []) r o p c h = refl
+set-three (x ∷ y ∷ z ∷ w ∷ f) r o p c h = absurd (omega arith)
 
 pub octets-three : (o p c : ℕ) → o < 256 → p < 256 → c < 256 → Octets (o ∷ p ∷ c ∷ [])
 octets-three o p c ho hp hc zero = ho
@@ -121,23 +123,23 @@ octets-three o p c ho hp hc (suc zero) = hp
 octets-three o p c ho hp hc (suc (suc zero)) = hc
 octets-three o p c ho hp hc (suc (suc (suc i))) = zero-lt-suc 255
 
-module _ (h : FrameHeader) (src : List ℕ) (from : ℕ) (d₀ d₁ : List ℕ) (k a : ℕ) (w : Writable if1 h src from d₀)
-    (m : carriesModes if1 (h .«frame_type») ≡ true) (oct : Octets d₀) (ek : k ≡ coreBits (h .«frame_type»)) (ea : a ≡ classA (h .«frame_type»))
-    (e : d₁ ≡ pack (take 24 (bits d₀) ++ take k (drop from (bits src))) ++ drop (octetsFor (24 + k)) d₀) where
-  core : List Bool
-  core = take (coreBits (h .«frame_type»)) (drop from (bits src))
+-- types 0 to 9 are known
+pub modes-known : (t : ℕ) → carriesModes if1 t ≡ true → known t ≡ true
+unfolding known
+modes-known t m = given (leb t 9) (known t) (every-below 16 (λ t. not (leb t 9) || known t) refl t (omega (arith, leb-true t 9 m))) m
 
-  core-size : length core ≡ coreBits (h .«frame_type»)
-  unfolding core
+-- the octets after a core was put behind the first three
+module _ (h : FrameHeader) (src : List ℕ) (from : ℕ) (d₀ : List ℕ) (w : Writable if1 h src from d₀) (m : carriesModes if1 (h .«frame_type») ≡ true) where
+  pub core-size : length (take (coreBits (h .«frame_type»)) (drop from (bits src))) ≡ coreBits (h .«frame_type»)
   core-size = length-take-le (coreBits (h .«frame_type»)) (drop from (bits src)) (omega (arith, length-drop from (bits src), length-bits src, w .core-there))
 
-  rest : List ℕ
-  rest = drop (octets if1 (h .«frame_type»)) d₀
+  pub three-there : length (take 3 d₀) ≡ 3
+  three-there = length-take-le 3 d₀ (omega (arith, modes-carried if1 (h .«frame_type») (w .type-known) m .1, w .room))
 
-  -- the octets after the core was put behind the first three
-  core-put : d₁ ≡ take 3 d₀ ++ (pack core ++ rest)
-  unfolding core rest
-  core-put =
+  pub core-put : (d₁ : List ℕ) (k : ℕ) → Octets d₀ → k ≡ coreBits (h .«frame_type»)
+      → d₁ ≡ pack (take 24 (bits d₀) ++ take k (drop from (bits src))) ++ drop (octetsFor (24 + k)) d₀
+      → d₁ ≡ take 3 d₀ ++ (pack (take (coreBits (h .«frame_type»)) (drop from (bits src))) ++ drop (octets if1 (h .«frame_type»)) d₀)
+  core-put d₁ k oct ek e =
       let t = h .«frame_type» in
       let z = sized if1 t (w .type-known) in
       let size : octetsFor (24 + k) ≡ octets if1 (h .«frame_type») =
@@ -148,28 +150,31 @@ module _ (h : FrameHeader) (src : List ℕ) (from : ℕ) (d₀ d₁ : List ℕ) 
       ∙ ap (λ l. l ++ pack (take (coreBits t) (drop from (bits src)))) (ap pack (sym (bits-take 3 d₀)) ∙ pack-bits (take 3 d₀) (octets-take 3 d₀ oct)))
       ∙ append-assoc (take 3 d₀) (pack (take (coreBits t) (drop from (bits src)))) (drop (octets if1 t) d₀)
 
+-- the header's octets stored in front of a core that is there
+module _ (h : FrameHeader) (d : List ℕ) (a : ℕ) (m : carriesModes if1 (h .«frame_type») ≡ true) (rb : h .request < 16) (ea : a ≡ classA (h .«frame_type»))
+    (front rest : List ℕ) (core : List Bool) (three : length front ≡ 3) (size : length core ≡ coreBits (h .«frame_type»))
+    (there : d ≡ front ++ (pack core ++ rest)) where
   -- Class A, where the code takes the CRC from
-  class-a-there : take a (bits (take (length d₁ - 3) (drop 3 d₁))) ≡ take (classA (h .«frame_type»)) core
+  class-a-there : take a (bits (take (length d - 3) (drop 3 d))) ≡ take (classA (h .«frame_type»)) core
   class-a-there =
       let t = h .«frame_type» in
-      let l3 : length (take 3 d₀) ≡ 3 = length-take-le 3 d₀ (omega (arith, modes-carried if1 t (w .type-known) m .1, w .room)) in
-      let part : take (length d₁ - 3) (drop 3 d₁) ≡ pack core ++ rest =
-      take-all (length d₁ - 3) (drop 3 d₁) (omega (arith, length-drop 3 d₁)) ∙ ap (drop 3) core-put ∙ drop-at (take 3 d₀) (pack core ++ rest) 3 l3 in
+      let part : take (length d - 3) (drop 3 d) ≡ pack core ++ rest =
+      take-all (length d - 3) (drop 3 d) (omega (arith, length-drop 3 d)) ∙ ap (drop 3) there ∙ drop-at front (pack core ++ rest) 3 three in
       ap₂ (λ n l. take n (bits l)) ea part
-      ∙ sym (take-take (classA t) (length core) (bits (pack core ++ rest)) (omega (arith, core-size, class-a-within t (w .type-known) .0)))
+      ∙ sym (take-take (classA t) (length core) (bits (pack core ++ rest)) (omega (arith, size, class-a-within t (modes-known t m) .0)))
       ∙ ap (take (classA t)) (take-packed core rest)
 
   pub modes-is : (o p c : ℕ) → o < 256 → p < 256 → c < 256 → digits 8 o ≡ firstBits if1 (h .«frame_type») (h .quality)
-      → p ≡ h .indication * 16 + h .request → c ≡ num 8 (crc (take a (bits (take (length d₁ - 3) (drop 3 d₁)))))
-      → set (set (set d₁ 0 o) 1 p) 2 c ≡ layout if1 (runFrame h src from) ++ drop (octets if1 (h .«frame_type»)) d₀
-  unfolding layout core rest
+      → p ≡ h .indication * 16 + h .request → c ≡ num 8 (crc (take a (bits (take (length d - 3) (drop 3 d)))))
+      → set (set (set d 0 o) 1 p) 2 c ≡ layout if1 (frameWith h core) ++ rest
+  unfolding layout
   modes-is o p c ho hp hc eo ep ec =
-      let x = runFrame h src from in
+      let x = frameWith h core in
       let t = h .«frame_type» in
-      let head = long-header x o p c m eo (ap (digits 8) ep ∙ second-octet (h .indication) (h .request) (w .request-bits))
+      let head = long-header x o p c m eo (ap (digits 8) ep ∙ second-octet (h .indication) (h .request) rb)
       (octet-bits (take (classA t) core) c (ec ∙ ap (λ l. num 8 (crc l)) class-a-there)) in
-      ap (λ l. set (set (set l 0 o) 1 p) 2 c) core-put
-      ∙ set-three d₀ (pack core ++ rest) o p c (omega (arith, modes-carried if1 t (w .type-known) m .1, w .room))
+      ap (λ l. set (set (set l 0 o) 1 p) 2 c) there
+      ∙ set-three front (pack core ++ rest) o p c three
       ∙ ap (λ l. l ++ (pack core ++ rest)) (sym (pack-bits (o ∷ p ∷ c ∷ []) (octets-three o p c ho hp hc)))
       ∙ sym (append-assoc (pack (bits (o ∷ p ∷ c ∷ []))) (pack core) rest)
       ∙ ap (λ l. l ++ rest) (sym (pack-append (bits (o ∷ p ∷ c ∷ [])) core 3 (length-bits (o ∷ p ∷ c ∷ []))) ∙ ap (λ l. pack (l ++ core)) (sym head))

@@ -1,5 +1,5 @@
 // Building one frame: judged first, then written. `build_if1`, `build_if2` and `build_storage` are entries; `first_octet`
-// is `pub` for the crate that carries frames over.
+// is `pub` for the crates that carry frames over and join sub-flows.
 use frame::Built;
 use frame::Format;
 use frame::FrameHeader;
@@ -15,14 +15,14 @@ use frame::table::core_bits;
 use frame::table::header_bits;
 use frame::table::octets_of;
 ghost use mathlib.Core.Path.{_≡_};
-ghost use mathlib.Core.Bool.{true, false};
-ghost use mathlib.Core.List.{_++_};
-ghost use Prim.Native.Nat.{ℕ, _+_, _-_, _*_, _<_};
+ghost use mathlib.Core.Bool.{Bool, true, false};
+ghost use mathlib.Core.List.{List, _++_};
+ghost use Prim.Native.Nat.{ℕ, _+_, _-_, _*_, _<_, _≤_};
 ghost use lib.ListN.{length, drop};
-ghost use Rattle.bits.specs.Bits.{digits, bits, octetsFor, clear};
+ghost use Rattle.bits.specs.Bits.{digits, bits, pack, octetsFor, clear};
 ghost use Rattle.definitions.specs.Frames.{if1, if2, storage, frameBy, coreBits, octets, carriesModes, spareBefore, layout, fieldsGood};
 ghost use Rattle.definitions.specs.Reading.{bufferCore, buildCheck, buildFrame};
-ghost use Rattle.frame.specs.Answers.{formatOf, readingOf};
+ghost use Rattle.frame.specs.Answers.{formatOf, frameWith, readingOf};
 ghost use Rattle.frame_builder.specs.Output.{Writable, runFrame, IntoOutput};
 
 // Where IF1 has the core, in bits.
@@ -51,17 +51,25 @@ fn write_short(f: Format, h: FrameHeader, src: &[u8], from: usize, out: &mut [u8
     bits::put_run(src, from, core_bits(t), out, header_bits(f, t));
 }
 
-// Writes an IF1 frame of types 0 to 9. The CRC is taken from the core where it has been put, since there it begins an octet.
-fn write_modes(h: FrameHeader, src: &[u8], from: usize, out: &mut [u8])
-    requires { ⌜ Writable if1 h (now src) from (now out) × (carriesModes if1 (h .«frame_type») ≡ true) ⌝ }
-    ensures { λ _. ⌜ now (out .exit) ≡ layout if1 (runFrame h (now (src .entry)) from) ++ drop (octets if1 (h .«frame_type»)) (now (out .entry)) ⌝ }
+// Writes the three header octets of an IF1 frame of types 0 to 9 whose core is there. The CRC is taken from the core where it has been put,
+// since there it begins an octet.
+fn put_modes(h: FrameHeader, out: &mut [u8])
+    requires { ⌜ (carriesModes if1 (h .«frame_type») ≡ true) × (h .quality < 2) × (h .indication < 16) × (h .request < 16) × (octets if1 (h .«frame_type») ≤ length (now out)) ⌝ }
+    ensures { λ _. ⌜ ((front rest : List ℕ) (core : List Bool) → length front ≡ 3 → length core ≡ coreBits (h .«frame_type») → now (out .entry) ≡ front ++ (pack core ++ rest) → now (out .exit) ≡ layout if1 (frameWith h core) ++ rest) ⌝ }
 {
-    let t = h.frame_type as usize;
-    bits::put_run(src, from, core_bits(t), out, CORE_BIT);
-    let crc = parity::crc_of(&out[IF1_CORE_AT..], class_a(t));
+    let crc = parity::crc_of(&out[IF1_CORE_AT..], class_a(h.frame_type as usize));
     out[0] = first_octet(Format::If1, h.frame_type, h.quality);
     out[1] = h.indication * 16 + h.request;
     out[2] = crc;
+}
+
+// Writes an IF1 frame of types 0 to 9. `pub` for Up.
+pub fn write_modes(h: FrameHeader, src: &[u8], from: usize, out: &mut [u8])
+    requires { ⌜ Writable if1 h (now src) from (now out) × (carriesModes if1 (h .«frame_type») ≡ true) ⌝ }
+    ensures { λ _. ⌜ now (out .exit) ≡ layout if1 (runFrame h (now (src .entry)) from) ++ drop (octets if1 (h .«frame_type»)) (now (out .entry)) ⌝ }
+{
+    bits::put_run(src, from, core_bits(h.frame_type as usize), out, CORE_BIT);
+    put_modes(h, out);
 }
 
 // Writes the frame of the header `h` whose core stands in `src` from bit `from` on.
@@ -88,8 +96,8 @@ pub fn core_fill_clear(core: &[u8], k: usize) -> bool
     bits::low_bits(core, n, 8 * n - k) == 0
 }
 
-// Refusal 6's test of a frame to be built.
-fn core_fields_good(f: Format, t: u64, i: u64, r: u64, core: &[u8]) -> bool
+// Refusal 6's test of a frame to be built. `pub` for Up.
+pub fn core_fields_good(f: Format, t: u64, i: u64, r: u64, core: &[u8]) -> bool
     requires { ⌜ length (now core) ≡ octetsFor (coreBits t) ⌝ }
     ensures { λ b. ⌜ ((q : ℕ) → b ≡ fieldsGood (formatOf f) (frameBy t q i r (bufferCore (now (core .entry)) t))) ⌝ }
 {

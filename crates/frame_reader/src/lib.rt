@@ -279,6 +279,13 @@ pub fn read_front(f: Format, s: &[u8]) -> Reading
     read_next(f, s)
 }
 
+// One frame, with nothing behind it. `pub` for the link's Down.
+pub fn read_single(f: Format, s: &[u8]) -> Reading
+    ensures { λ r. ⌜ readingOf (λ t. coreIn (formatOf f) t (bits (now (s .entry)))) r ≡ readWith true (formatOf f) (now (s .entry)) ⌝ }
+{
+    judge(true, f, s)
+}
+
 // Puts the core of the frame at the start of `s`, whose header is `h`, packed into the buffer, if that has room. `pub` for the viewer.
 pub fn core_out(f: Format, s: &[u8], h: FrameHeader, core: &mut [u8]) -> Reading
     requires { ⌜ (known (h .«frame_type») ≡ true) × (octets (formatOf f) (h .«frame_type») ≤ length (now s)) ⌝ }
@@ -301,7 +308,7 @@ pub fn read_frame(format: u64, s: &[u8], core: &mut [u8]) -> Reading
     let FormatFound::Is(f) = format_numbered(format) else {
         return Reading::Refused(Refusal::ArgumentRange);
     };
-    let r = judge(true, f, s);
+    let r = read_single(f, s);
     let Reading::Frame(h, _) = r else {
         return r;
     };

@@ -18,8 +18,8 @@ returns c =
     let a = c .before .before .before .before .before .args in
     unknown-format (a .format) (a .s .now) (a .core .now) (c .before .before .format-numbered .result) (c .before .before .format-numbered .ensures) (c .enum-told .given .1)
 
-judge-requires : tie.Need-judge-requires
-judge-requires c κs = search needs
+read-single-requires : tie.Need-read-single-requires
+read-single-requires c κs = search needs
 
 enum-known-r : tie.Need-enum-known-r
 enum-known-r c = search needs
@@ -32,7 +32,7 @@ returns-2 c =
     let a = c .before .before .before .before .before .before .before .before .before .args in
     let n = c .before .before .before .before .before .before .format-numbered in
     let f = c .before .before .before .before .f .given in
-    let r = c .before .before .judge in
+    let r = c .before .before .read-single in
     refused-frame (a .format) (a .s .now) (a .core .now) (n .result) (n .ensures) (f .0 .0) (f .1) (r .result) (r .ensures) (c .enum-told2 .given .0 .0) (c .enum-told2 .given .1)
 
 core-out-requires : tie.Need-core-out-requires
@@ -40,7 +40,7 @@ core-out-requires c κs =
     let a = c .before .before .before .before .before .before .before .before .before .before .before .args in
     let n = c .before .before .before .before .before .before .before .before .format-numbered in
     let f = c .before .before .before .before .before .before .f .given in
-    let r = c .before .before .before .before .judge in
+    let r = c .before .before .before .before .read-single in
     let h = c .before .before .r .given in
     known-there (a .format) (a .s .now) (a .core .now) (n .result) (n .ensures) (f .0 .0) (f .1) (r .result) (r .ensures) (h .0 .0) (h .0 .1 .0) (h .1)
 
@@ -52,7 +52,7 @@ returns-3 c =
     let a = c .before .before .before .before .before .before .before .before .before .before .before .before .before .before .args in
     let n = c .before .before .before .before .before .before .before .before .before .before .before .format-numbered in
     let f = c .before .before .before .before .before .before .before .before .before .f .given in
-    let r = c .before .before .before .before .before .before .before .judge in
+    let r = c .before .before .before .before .before .before .before .read-single in
     let h = c .before .before .before .before .before .r .given in
     let o = c .before .before .core-out in
     frame-out (a .format) (a .s .now) (a .core .now) (n .result) (n .ensures) (f .0 .0) (f .1) (r .result) (r .ensures) (h .0 .0) (h .0 .1 .0) (h .1)
@@ -66,7 +66,7 @@ read-frame-spec =
     enum-known-f
     enum-told
     returns
-    judge-requires
+    read-single-requires
     enum-known-r
     enum-told-2
     returns-2
