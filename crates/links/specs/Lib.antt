@@ -1,0 +1,4 @@
+pub mod Sets
+pub mod Calls
+pub mod History
+pub mod ThereAndBack
