@@ -1,0 +1,3 @@
+pub mod Subflows
+pub mod Judging
+pub mod Answers
