@@ -1,0 +1,13 @@
+-- `downlink::fqc_of` meets its contract. Assumes nothing.
+use Rattle.downlink.proofs.DownLaws.{fqc-good, fqc-bad}
+use Rattle.downlink.proofs.fqc_of.Statement.{statement}
+use Rattle.downlink.proofs.fqc_of.Tie as tie
+
+returns : tie.Need-returns
+returns c = fqc-good _ (c .if1 .taken)
+
+returns-2 : tie.Need-returns-2
+returns-2 c = fqc-bad _ (c .if1 .left)
+
+pub fqc-of-spec : {M : Type 1} → statement M
+fqc-of-spec = tie.close (tie.spec returns returns-2)
