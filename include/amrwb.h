@@ -1,5 +1,6 @@
-/* The AMR-WB voice adapter's C interface: whole recordings, one frame, the reception class, the codec's bit order, a viewer and the report.
- * Level one's library has the three calls for recordings, with formats 1 and 2; level two's has every call here, with formats 1 to 3.
+/* The AMR-WB voice adapter's C interface: whole recordings, one frame, the reception class, the codec's bit order, a viewer, the report and
+ * the link to a radio network. Level one's library has the three calls for recordings, with formats 1 and 2; level two's has these and every
+ * other call but the link's, with formats 1 to 3; level three's has the link's, and no name of the others yet, so that a host may link both.
  *
  * Octets are lent as a pointer and a length; a length of 0 may come with any pointer that is not null. The lent buffers of one call
  * must not overlap. No call keeps a pointer, uses the heap or fails in another way than by its answer.
@@ -11,12 +12,15 @@
  *   1 no octets              2 reserved frame type (10 to 13)    3 fewer octets than the type's    4 octets behind a single frame
  *   5 spare or filling bit 1 6 a mode or field out of range      7 CRC                             8 header of a stored recording
  *   9 recording too long, read or about to be written           10 buffer shorter than needed
- *   11 another argument out of its range                        12 codec order of modes 5 to 8
- * Where several apply, the one that comes first in this order is given: 11, 9 for what is read, 8, the first refused frame by 1 to 7, 12, 9
- * for what would be written, 10. 1 and 4 come in a call for one frame only, 8 and 9 in a call for a recording only. At 2 to 7 in a
- * recording, frame counts its frames from 0, and octet is the place of that frame's first octet, from 0 at the recording's start, header
- * included; else both are 0. At a refusal every other field is 0, but for offset and number of amrwb_view_next, and no lent octet is
- * changed. Otherwise octets of a buffer beyond the written ones stay.
+ *   11 another argument out of its range                        12 codec order of modes 5 to 8   13 FQC 3
+ *   14 the link has no set                                      15 the link has a set            16 RFCI or type not in the set
+ *   17 a sub-flow's buffer with another length than its octets, or with a filling bit 1
+ * Where several apply, the one that comes first in this order is given: 11, 14, 15, 9 for what is read, 8, the first refused frame by 1 to 7,
+ * 12, 13, 16, 17, 6 for the mode of a SID frame that the link makes, 9 for what would be written, 10. 1 and 4 come in a call for one frame
+ * only, 8 and 9 in a call for a recording only, 13 to 17 in the link's only. At 2 to 7 in a recording, frame counts its frames from 0, and
+ * octet is the place of that frame's first octet, from 0 at the recording's start, header included; else both are 0. At a refusal every
+ * other field is 0, but for offset and number of amrwb_view_next and for link, which stay as given, and no lent octet is changed. Otherwise
+ * octets of a buffer beyond the written ones stay.
  *
  * A frame type is 0 to 9, 14 or 15; quality is the FQI (0 bad, 1 good); indication and request are modes, 0 to 8. A core is packed:
  * d(0) is the top bit of its first octet, and filling bits are 0. Type 0 to 9 has 17, 23, 32, 36, 40, 46, 50, 58, 60, 5 octets
@@ -125,6 +129,65 @@ amrwb_view amrwb_view_next(uint64_t format, uint64_t offset, uint64_t number, co
 
 /* Reads the stored recording rec, here of at most 65,536 octets (else 9), to its end, and counts its frames by class. */
 amrwb_counts amrwb_report(const uint8_t *rec, size_t len);
+
+/* Level three: the link to a radio network. Its state is the host's to keep: each call takes it by value and answers the next one, which is
+ * the same where the call is refused. */
+
+/* A sub-flow combination (RFC): the RFCI, 0 to 63, the frame type, 0 to 9 or 15, and three sub-flow sizes in bits, whose sum is the bits of
+ * the type's core. */
+typedef struct {
+    uint8_t rfci, type;
+    uint16_t size1, size2, size3;
+} amrwb_combination;
+
+/* A set has its combinations in the first count places; count is 0 where there is no set. request is the stored mode request; forwarded is
+ * the request that was forwarded last, 15 where none was. A link that no call answered is safe to hand in: see docs/DECISIONS.md. */
+typedef struct {
+    struct {
+        amrwb_combination places[11];
+        uint32_t count;
+    } set;
+    uint16_t request, forwarded;
+} amrwb_link;
+
+typedef struct {
+    uint64_t refusal, frame, octet;
+    amrwb_link link;
+} amrwb_link_answer;
+
+typedef struct {
+    uint64_t refusal, frame, octet;
+    uint64_t fqc;        /* 0 good, 1 bad */
+    uint64_t rfci;
+    uint64_t n1, n2, n3; /* octets written to each sub-flow's buffer */
+    uint64_t forwarded;  /* 1 where the frame's request is forwarded, else 0 */
+    uint64_t request;    /* that request, else 0 */
+    amrwb_link link;
+} amrwb_down;
+
+/* No set, request 0, no request forwarded. */
+amrwb_link amrwb_link_fresh(void);
+
+/* Stores the combinations that rows writes, five numbers for each: RFCI, type and three sizes; 1 to 11 of them, with different RFCIs and
+ * different types. 11 for anything else, then 15 where there is a set. */
+amrwb_link_answer amrwb_link_assign(amrwb_link link, const uint64_t *rows, size_t rows_len);
+
+/* Back to no set; both requests stay. 14 where there is none. */
+amrwb_link_answer amrwb_link_release(amrwb_link link);
+
+/* Stores a mode request, 0 to 8 (else 11), with a set or without. */
+amrwb_link_answer amrwb_link_rate(amrwb_link link, uint64_t mode);
+
+/* Joins three sub-flows, each in exactly its octets with filling bits 0, into an IF1 frame in out, with the stored request, the type as
+ * indication (type 9: 0) and the computed CRC. fqc 0 gives quality 1, 2 gives quality 0; 1 gives type 15 with quality 0, and the sub-flows are
+ * not read. 11 for fqc above 3 or rfci above 63; 14; 13; 16; 17; 6; 10. */
+amrwb_answer amrwb_link_up(amrwb_link link, uint64_t fqc, uint64_t rfci, const uint8_t *s1, size_t n1, const uint8_t *s2, size_t n2,
+                           const uint8_t *s3, size_t n3, uint8_t *out, size_t out_len);
+
+/* Splits one IF1 frame, which takes all of frame, into the three sub-flows of its type's combination. The buffers may be longer than needed.
+ * A request of types 0 to 9 that is not the one forwarded last is forwarded, and kept in link. 14; the frame by 1 to 7; 16; 10. */
+amrwb_down amrwb_link_down(amrwb_link link, const uint8_t *frame, size_t len, uint8_t *s1, size_t n1, uint8_t *s2, size_t n2, uint8_t *s3,
+                           size_t n3);
 
 #ifdef __cplusplus
 }

@@ -1,0 +1,181 @@
+// Level three's own C interface (include/amrwb.h), the link: each function calls one entry and hands its answer on as numbers, as
+// specs/Flat.antt says. Every export is an entry.
+ghost use mathlib.Core.Path.{_≡_};
+ghost use lib.ListN.{length};
+ghost use Rattle.links.specs.Calls.{freshLink, upCall, downCall};
+ghost use Rattle.links.specs.History.{linkStep, assign, release, rate};
+ghost use Rattle.link_state.specs.Answers.{verdictOf, movedOf};
+ghost use Rattle.answers.specs.Flat.{FlatOutput};
+ghost use Rattle.downlink.specs.Answers.{forwardOf, downOf};
+ghost use Rattle.level_three.specs.Flat.{refusalNumber, linkNumbers, isForwarded, requestForwarded, downNumbers, FlatDown};
+use answers::Answer;
+use answers::built_answer;
+use downlink::Downlinked;
+use downlink::Forward;
+use link_state::Moved;
+use link_state::Verdict;
+use links::Link;
+
+#[repr(C)]
+pub struct LinkAnswer {
+    pub refusal: u64,
+    pub frame: u64,
+    pub octet: u64,
+    pub link: Link,
+}
+
+#[repr(C)]
+pub struct DownNumbers {
+    pub refusal: u64,
+    pub frame: u64,
+    pub octet: u64,
+    pub fqc: u64,
+    pub rfci: u64,
+    pub n1: u64,
+    pub n2: u64,
+    pub n3: u64,
+    pub forwarded: u64,
+    pub request: u64,
+    pub link: Link,
+}
+
+// 0, or the number of a refusal.
+fn verdict_number(v: Verdict) -> u64
+    ensures { λ r. ⌜ r ≡ refusalNumber (verdictOf v) ⌝ }
+{
+    match v {
+        Verdict::Accepted => 0,
+        Verdict::Refused(e) => frame::refusal_number(e),
+    }
+}
+
+fn moved_answer(m: Moved) -> LinkAnswer
+    ensures { λ r. ⌜ r ≡ linkNumbers (movedOf m) ⌝ }
+{
+    let v = m.verdict;
+    let link = m.link;
+    LinkAnswer {
+        refusal: verdict_number(v),
+        frame: 0,
+        octet: 0,
+        link,
+    }
+}
+
+// Whether a request is forwarded, and which.
+fn is_forwarded(f: Forward) -> u64
+    ensures { λ r. ⌜ r ≡ isForwarded (forwardOf f) ⌝ }
+{
+    match f {
+        Forward::Nothing => 0,
+        Forward::Request(_) => 1,
+    }
+}
+
+fn request_forwarded(f: Forward) -> u64
+    ensures { λ r. ⌜ r ≡ requestForwarded (forwardOf f) ⌝ }
+{
+    match f {
+        Forward::Nothing => 0,
+        Forward::Request(r) => r as u64,
+    }
+}
+
+fn down_answer(d: Downlinked, link: Link) -> DownNumbers
+    ensures { λ r. ⌜ r ≡ downNumbers (downOf d) link ⌝ }
+{
+    match d {
+        Downlinked::Split(s) => {
+            let f = s.forward;
+            DownNumbers {
+                refusal: 0,
+                frame: 0,
+                octet: 0,
+                fqc: s.fqc as u64,
+                rfci: s.rfci as u64,
+                n1: s.octets1 as u64,
+                n2: s.octets2 as u64,
+                n3: s.octets3 as u64,
+                forwarded: is_forwarded(f),
+                request: request_forwarded(f),
+                link,
+            }
+        }
+        Downlinked::Refused(e) => DownNumbers {
+            refusal: frame::refusal_number(e),
+            frame: 0,
+            octet: 0,
+            fqc: 0,
+            rfci: 0,
+            n1: 0,
+            n2: 0,
+            n3: 0,
+            forwarded: 0,
+            request: 0,
+            link,
+        },
+    }
+}
+
+#[no_mangle]
+pub extern "C" fn amrwb_link_fresh() -> Link
+    ensures { λ r. ⌜ r ≡ freshLink ⌝ }
+{
+    link_state::fresh()
+}
+
+#[no_mangle]
+pub extern "C" fn amrwb_link_assign(link: Link, rows: &[u64]) -> LinkAnswer
+    ensures { λ r. ⌜ r ≡ linkNumbers (linkStep link (assign (now (rows .entry)))) ⌝ }
+{
+    moved_answer(link_state::assign(link, rows))
+}
+
+#[no_mangle]
+pub extern "C" fn amrwb_link_release(link: Link) -> LinkAnswer
+    ensures { λ r. ⌜ r ≡ linkNumbers (linkStep link release) ⌝ }
+{
+    moved_answer(link_state::release(link))
+}
+
+#[no_mangle]
+pub extern "C" fn amrwb_link_rate(link: Link, mode: u64) -> LinkAnswer
+    ensures { λ r. ⌜ r ≡ linkNumbers (linkStep link (rate mode)) ⌝ }
+{
+    moved_answer(link_state::rate_command(link, mode))
+}
+
+#[no_mangle]
+pub extern "C" fn amrwb_link_up(
+    link: Link,
+    fqc: u64,
+    rfci: u64,
+    s1: &[u8],
+    s2: &[u8],
+    s3: &[u8],
+    out: &mut [u8],
+) -> Answer
+    ensures { λ r. ⌜ FlatOutput (upCall link fqc rfci (now (s1 .entry)) (now (s2 .entry)) (now (s3 .entry)) (length (now (out .entry)))) (now (out .entry)) (now (out .exit)) r ⌝ }
+{
+    built_answer(uplink::join_frame(link, fqc, rfci, s1, s2, s3, out))
+}
+
+#[no_mangle]
+pub extern "C" fn amrwb_link_down(
+    link: Link,
+    frame: &[u8],
+    s1: &mut [u8],
+    s2: &mut [u8],
+    s3: &mut [u8],
+) -> DownNumbers
+    ensures { λ r. ⌜ FlatDown (downCall link (now (frame .entry)) (length (now (s1 .entry))) (length (now (s2 .entry))) (length (now (s3 .entry)))) link (now (s1 .entry)) (now (s1 .exit)) (now (s2 .entry)) (now (s2 .exit)) (now (s3 .entry)) (now (s3 .exit)) r ⌝ }
+{
+    let d = downlink::split_frame(link, frame, s1, s2, s3);
+    let set = link.set;
+    let next = Link {
+        set,
+        request: link.request,
+        forwarded: downlink::forwarded_after(link.forwarded, d),
+    };
+    down_answer(d, next)
+}
