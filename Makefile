@@ -14,7 +14,8 @@ report:
 test:
 	@tests/run
 
-# how fast the library converts and orders bits, beside plain Rust: Markdown tables
+# how fast the library converts, orders bits, and joins and splits frames for the link, beside plain Rust: Markdown tables
 bench:
-	@tests/build bench
+	@tests/build bench bench_three
 	@target/tools/bench
+	@target/tools/bench_three

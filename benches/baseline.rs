@@ -76,7 +76,7 @@ impl Crc for Table {
 
 /// CRC of Class A of an octet-aligned core.
 #[inline]
-fn class_a<C: Crc>(t: usize, core: &[u8]) -> u8 {
+pub fn class_a<C: Crc>(t: usize, core: &[u8]) -> u8 {
     match t {
         0 => C::bits54(be(core, 0) >> 10),
         1 => C::octets(&core[..8]),
@@ -95,7 +95,7 @@ fn octets_of(f: Format, t: usize) -> usize {
 
 /// Judges one frame at the start of `s`: its type, or the refusal's number.
 #[inline(always)]
-fn frame<C: Crc>(f: Format, s: &[u8]) -> Result<usize, u8> {
+pub fn frame<C: Crc>(f: Format, s: &[u8]) -> Result<usize, u8> {
     let h = s[0];
     let t = match f { Format::Stored => (h >> 3) & 15, _ => h >> 4 } as usize;
     let n = octets_of(f, t);

@@ -4,26 +4,12 @@
 //!   bench --check                 no times: both convert short recordings of every kind, and order frames of every mode, alike
 mod baseline;
 mod bench_order;
+mod measure;
 mod order;
 
 use baseline::{convert, Bitwise, Format, Table, HEADER, IF1, LIMIT, STORED};
+use measure::{best_median, nanoseconds, random, Answer};
 use std::hint::black_box;
-use std::time::Instant;
-
-#[repr(C)]
-struct Answer {
-    refusal: u64,
-    frame: u64,
-    octet: u64,
-    frames: u64,
-    octets: u64,
-}
-
-impl Answer {
-    fn fields(&self) -> [u64; 5] {
-        [self.refusal, self.frame, self.octet, self.frames, self.octets]
-    }
-}
 
 #[link(name = "level_two", kind = "static")]
 extern "C" {
@@ -36,13 +22,6 @@ const FORMATS: [Format; 3] = [Format::If1, Format::If2, Format::Stored];
 const KINDS: [&str; 5] = ["mixed", "runs", "0", "2", "8"];
 const TYPES: [usize; 12] = [0, 1, 2, 3, 4, 5, 6, 7, 8, 9, 14, 15];
 const REQUEST: u8 = 2;
-
-fn random(state: &mut u64) -> u64 {
-    *state ^= *state << 13;
-    *state ^= *state >> 7;
-    *state ^= *state << 17;
-    *state
-}
 
 /// A stored recording that takes at most so many octets, in IF1 too, which is the longest: frames of all types by chance (mixed), the
 /// same in runs of 50 frames of one type (runs), or one speech mode.
@@ -126,18 +105,6 @@ fn check(kind: &str, recs: &[Vec<u8>; 3]) {
             }
         }
     }
-}
-
-fn nanoseconds<T>(f: impl FnOnce() -> T) -> f64 {
-    let start = Instant::now();
-    black_box(f());
-    start.elapsed().as_nanos() as f64
-}
-
-/// The best and the median of some times.
-fn best_median(mut times: Vec<f64>) -> (f64, f64) {
-    times.sort_by(f64::total_cmp);
-    (times[0], times[times.len() / 2])
 }
 
 /// Library, baseline and memcpy in turn, all directions a run: a change of the machine's speed meets all three, and no direction alone. The

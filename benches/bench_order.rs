@@ -1,6 +1,6 @@
 //! Compares the library's codec order with the plain Rust one of order.rs.
+use crate::measure::{in_turn, random, Answer, COLUMNS};
 use crate::order::{packed, to_core, to_row, BITS};
-use crate::{best_median, nanoseconds, random, Answer};
 use std::hint::black_box;
 
 extern "C" {
@@ -92,8 +92,7 @@ pub fn check() {
 pub fn compare(runs: usize) {
     check();
     println!("### Codec order\n\n{FRAMES} frames of each mode; {runs} runs; nanoseconds per frame.\n");
-    println!("| mode | direction | library best | median | baseline best | median | ratio of bests | of medians |");
-    println!("|---|---|---|---|---|---|---|---|");
+    println!("| mode | direction | {COLUMNS} |\n|---|---|---|---|---|---|---|---|");
     for mode in 0..MODES {
         let bits = BITS[mode as usize];
         let octets = packed(bits);
@@ -109,14 +108,9 @@ pub fn compare(runs: usize) {
 /// Prints a direction's row of the table. The sizes are a frame's octets in input and output.
 fn measure(direction: (&str, Call, Call), mode: u64, input: &[u8], sizes: (usize, usize), runs: usize) {
     let mut output = vec![0xA7; sizes.1 * FRAMES];
-    let mut times: [Vec<f64>; 2] = Default::default();
-    for run in 0..runs {
-        for side in [run % 2, 1 - run % 2] {
-            let call = [direction.1, direction.2][side];
-            times[side].push(nanoseconds(|| all(call, mode, black_box(input), sizes.0, black_box(&mut output), sizes.1)));
-        }
-    }
-    let [l, b] = times.map(best_median).map(|(best, median)| (best / FRAMES as f64, median / FRAMES as f64));
-    let ratios = (l.0 / b.0, l.1 / b.1);
-    println!("| {mode} | {} | {:.2} | {:.2} | {:.2} | {:.2} | {:.2} | {:.2} |", direction.0, l.0, l.1, b.0, b.1, ratios.0, ratios.1);
+    let columns = in_turn(runs, FRAMES, |side| {
+        let call = [direction.1, direction.2][side];
+        all(call, mode, black_box(input), sizes.0, black_box(&mut output), sizes.1)
+    });
+    println!("| {mode} | {} | {columns} |", direction.0);
 }

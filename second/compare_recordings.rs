@@ -49,7 +49,7 @@ pub fn right_frame(g: &mut Random, format: u64, ftype: u64) -> Frame {
 }
 
 /// A frame with a fault, and sometimes a second one.
-fn wrong_frame(g: &mut Random, format: u64) -> Vec<u8> {
+pub fn wrong_frame(g: &mut Random, format: u64) -> Vec<u8> {
     let fault = g.below(7);
     let ftype = if fault == 2 { 9 } else { g.one_of(&TYPES) };
     let modes = format == 1 && ftype <= 9;
@@ -80,7 +80,7 @@ fn wrong_frame(g: &mut Random, format: u64) -> Vec<u8> {
     s
 }
 
-fn change_a_bit(g: &mut Random, s: &mut [u8]) {
+pub fn change_a_bit(g: &mut Random, s: &mut [u8]) {
     if !s.is_empty() {
         let i = g.below(8 * s.len() as u64) as usize;
         s[i / 8] ^= 128 >> (i % 8);

@@ -1,0 +1,328 @@
+//! Compares the link in level three's library with the second program: the answer, the next state with all its places, and every lent
+//! octet.
+use crate::compare_recordings::{right_frame, Answer};
+use crate::frame;
+use crate::link::{self, Combination, Down, Link, RfcSet, PLACES};
+use crate::random::{written, Random, Tally};
+use crate::random_links::{combination, right_set, strange_link, wrong_set, Row, EXAMPLES, LINK_TYPES};
+use crate::random_links::{some_fqc, some_frame, some_frame_room, some_rate, some_rfci, some_rooms, some_subflows};
+
+#[repr(C)]
+struct LinkAnswer {
+    refusal: u64,
+    frame: u64,
+    octet: u64,
+    link: Link,
+}
+
+#[repr(C)]
+struct DownAnswer {
+    refusal: u64,
+    frame: u64,
+    octet: u64,
+    fqc: u64,
+    rfci: u64,
+    n1: u64,
+    n2: u64,
+    n3: u64,
+    forwarded: u64,
+    request: u64,
+    link: Link,
+}
+
+impl DownAnswer {
+    fn fields(&self) -> [u64; 10] {
+        let DownAnswer { refusal, frame, octet, fqc, rfci, n1, n2, n3, forwarded, request, .. } = *self;
+        [refusal, frame, octet, fqc, rfci, n1, n2, n3, forwarded, request]
+    }
+}
+
+extern "C" {
+    fn amrwb_link_fresh() -> Link;
+    fn amrwb_link_assign(link: Link, rows: *const u64, rows_len: usize) -> LinkAnswer;
+    fn amrwb_link_release(link: Link) -> LinkAnswer;
+    fn amrwb_link_rate(link: Link, mode: u64) -> LinkAnswer;
+    fn amrwb_link_up(
+        link: Link, fqc: u64, rfci: u64, s1: *const u8, n1: usize, s2: *const u8, n2: usize, s3: *const u8, n3: usize, out: *mut u8,
+        out_len: usize,
+    ) -> Answer;
+    fn amrwb_link_down(
+        link: Link, frame: *const u8, len: usize, s1: *mut u8, n1: usize, s2: *mut u8, n2: usize, s3: *mut u8, n3: usize,
+    ) -> DownAnswer;
+}
+
+/// The sizes at the borders of octets and of a core of so many bits, and the rest behind, between or before two of them.
+fn border_sizes(bits: u64) -> Vec<[u64; 3]> {
+    let borders = [0, 1, 7, 8, 9, bits];
+    let pairs = borders.into_iter().flat_map(|one| borders.into_iter().map(move |other| (one, other)));
+    let fit = pairs.filter(|(one, other)| one + other <= bits);
+    fit.flat_map(|(one, other)| {
+        let rest = bits - one - other;
+        [[one, other, rest], [one, rest, other], [rest, one, other]]
+    })
+    .collect()
+}
+
+/// The calls of the link, in lists: each is handed the state that the last one gave.
+pub struct Links {
+    link: Link,
+    /// Calls to come in the list.
+    left: u64,
+    /// Whether the list began with a state that no call gave.
+    strange: bool,
+    assigns: Tally,
+    releases: Tally,
+    rates: Tally,
+    ups: Tally,
+    downs: Tally,
+    in_strange: Tally,
+    /// Accepted Downs that forward nothing, and those that forward a request.
+    forwards: [u64; 2],
+}
+
+impl Links {
+    pub fn new() -> Links {
+        Links {
+            link: link::fresh(),
+            left: 0,
+            strange: false,
+            assigns: Tally::default(),
+            releases: Tally::default(),
+            rates: Tally::default(),
+            ups: Tally::default(),
+            downs: Tally::default(),
+            in_strange: Tally::default(),
+            forwards: [0; 2],
+        }
+    }
+
+    /// One call by chance; true where both agree.
+    pub fn compare(&mut self, g: &mut Random) -> bool {
+        if self.left == 0 && !self.begin(g) {
+            return false;
+        }
+        self.left -= 1;
+        let none = self.link.set.count == 0;
+        match g.below(24) {
+            0 => self.release(),
+            1..=2 => self.rate(some_rate(g)),
+            3..=4 => self.some_assign(g),
+            5..=6 => self.some_up(g),
+            7..=8 => self.some_down(g),
+            _ if none => self.some_assign(g),
+            9..=15 => self.some_up(g),
+            _ => self.some_down(g),
+        }
+    }
+
+    fn some_assign(&mut self, g: &mut Random) -> bool {
+        let numbers = if g.one_in(3) { wrong_set(g) } else { right_set(g).concat() };
+        self.assign(&numbers)
+    }
+
+    fn some_up(&mut self, g: &mut Random) -> bool {
+        let fqc = some_fqc(g);
+        let rfci = some_rfci(g, &self.link);
+        let subflows = some_subflows(g, &self.link, rfci);
+        let room = some_frame_room(g, &self.link, fqc, rfci);
+        self.up(fqc, rfci, &subflows, room).is_some()
+    }
+
+    fn some_down(&mut self, g: &mut Random) -> bool {
+        let octets = some_frame(g, &self.link);
+        let rooms = some_rooms(g, &self.link, &octets);
+        self.down(&octets, rooms).is_some()
+    }
+
+    /// Begins a list of calls, with a fresh link or with a state that no call gave.
+    fn begin(&mut self, g: &mut Random) -> bool {
+        self.strange = g.one_in(2);
+        if self.strange {
+            self.left = 1 + g.below(8);
+            self.link = strange_link(g);
+            return true;
+        }
+        self.left = 1 + g.below(50);
+        self.fresh()
+    }
+
+    fn count(&mut self, tally: fn(&mut Links) -> &mut Tally, refusal: u64) {
+        tally(self).count(refusal);
+        if self.strange {
+            self.in_strange.count(refusal);
+        }
+    }
+
+    fn fresh(&mut self) -> bool {
+        let got = unsafe { amrwb_link_fresh() };
+        self.link = link::fresh();
+        agree(got == self.link, || format!("link_fresh: {got:?}"))
+    }
+
+    /// Whether the answer of a call that only moves the state is the second program's; takes the next state on.
+    fn moved(&mut self, got: LinkAnswer, done: Result<Link, u64>, call: impl FnOnce() -> String) -> bool {
+        let before = self.link;
+        let refusal = done.err().unwrap_or(0);
+        self.link = done.unwrap_or(before);
+        let (got, next) = ([got.refusal, got.frame, got.octet], got.link);
+        let same = got == [refusal, 0, 0] && next == self.link;
+        agree(same, || format!("{} in {before:?}: {got:?} {next:?} and not {refusal} {:?}", call(), self.link))
+    }
+
+    fn assign(&mut self, numbers: &[u64]) -> bool {
+        let kept = numbers.to_vec();
+        let got = unsafe { amrwb_link_assign(self.link, numbers.as_ptr(), numbers.len()) };
+        let done = link::assign(&self.link, &kept);
+        self.count(|links| &mut links.assigns, done.err().unwrap_or(0));
+        self.moved(got, done, || format!("link_assign {kept:?}")) && agree(numbers == kept, || format!("link_assign changes {kept:?}"))
+    }
+
+    fn release(&mut self) -> bool {
+        let got = unsafe { amrwb_link_release(self.link) };
+        let done = link::release(&self.link);
+        self.count(|links| &mut links.releases, done.err().unwrap_or(0));
+        self.moved(got, done, || "link_release".to_string())
+    }
+
+    fn rate(&mut self, mode: u64) -> bool {
+        let got = unsafe { amrwb_link_rate(self.link, mode) };
+        let done = link::rate(&self.link, mode);
+        self.count(|links| &mut links.rates, done.err().unwrap_or(0));
+        self.moved(got, done, || format!("link_rate {mode}"))
+    }
+
+    /// The second program's frame or refusal; None where the library differs.
+    fn up(&mut self, fqc: u64, rfci: u64, subflows: &[Vec<u8>; 3], room: usize) -> Option<Result<Vec<u8>, u64>> {
+        let kept = subflows.clone();
+        let [s1, s2, s3] = subflows;
+        let mut out = written(room, &[]);
+        let got = unsafe {
+            amrwb_link_up(
+                self.link, fqc, rfci, s1.as_ptr(), s1.len(), s2.as_ptr(), s2.len(), s3.as_ptr(), s3.len(), out.as_mut_ptr(), room,
+            )
+        };
+        let got = got.fields();
+        let done = link::up(&self.link, fqc, rfci, &kept, room);
+        let want = done.as_ref().map_or_else(|number| [*number, 0, 0, 0, 0], |done| [0, 0, 0, 0, done.len() as u64]);
+        self.count(|links| &mut links.ups, want[0]);
+        let same = got == want && *subflows == kept && out == written(room, done.as_deref().unwrap_or_default());
+        let call = || format!("link_up fqc {fqc} rfci {rfci} {kept:02X?} into {room} octets in {:?}", self.link);
+        agree(same, || format!("{}: {got:?} and not {want:?}, or a lent octet", call())).then_some(done)
+    }
+
+    /// The second program's sub-flows or refusal; None where the library differs. Takes the next state on.
+    fn down(&mut self, octets: &[u8], rooms: [usize; 3]) -> Option<Result<[Vec<u8>; 3], u64>> {
+        let before = self.link;
+        let kept = octets.to_vec();
+        let mut buffers = rooms.map(|room| written(room, &[]));
+        let [s1, s2, s3] = buffers.each_mut().map(Vec::as_mut_ptr);
+        let [n1, n2, n3] = rooms;
+        let got = unsafe { amrwb_link_down(before, octets.as_ptr(), octets.len(), s1, n1, s2, n2, s3, n3) };
+        let (got, next) = (got.fields(), got.link);
+        let done = link::down(&before, &kept, rooms);
+        let want = down_fields(&done);
+        self.count(|links| &mut links.downs, want[0]);
+        if let Ok(done) = &done {
+            self.forwards[done.forwarded.is_some() as usize] += 1;
+            self.link = done.link;
+        }
+        let done = done.map(|done| done.subflows);
+        let subflows = done.clone().unwrap_or_default();
+        let lent = octets == kept && (0..3).all(|i| buffers[i] == written(rooms[i], &subflows[i]));
+        let same = got == want && next == self.link && lent;
+        let call = || format!("link_down {kept:02X?} into {rooms:?} octets in {before:?}");
+        let answers = || format!("{got:?} {next:?} and not {want:?} {:?}", self.link);
+        agree(same, || format!("{}: {}, or a lent octet", call(), answers())).then_some(done)
+    }
+
+    /// The examples of TS 26.202, sizes at the borders for every type, and cases written out; true where both agree on them.
+    pub fn compare_fixed(&mut self) -> bool {
+        let borders = LINK_TYPES.into_iter().flat_map(|ftype| {
+            let sizes = border_sizes(frame::core_bits(ftype) as u64);
+            sizes.into_iter().map(move |[size1, size2, size3]| [63, ftype, size1, size2, size3])
+        });
+        EXAMPLES.into_iter().all(|rows| self.compare_set(rows))
+            && borders.into_iter().all(|row| self.compare_set(&[row]))
+            && self.compare_cases()
+    }
+
+    /// Assigns a set, splits a frame of each of its types, and joins the sub-flows again.
+    fn compare_set(&mut self, rows: &[Row]) -> bool {
+        let request = 5;
+        let mut places = [Combination::default(); PLACES];
+        for (place, row) in places.iter_mut().zip(rows) {
+            *place = combination(row);
+        }
+        let set = RfcSet { places, count: rows.len() as u32 };
+        let ready = self.fresh() && self.assign(&rows.concat()) && self.rate(request) && self.link.set == set;
+        agree(ready && rows.iter().all(|row| self.there_and_back(row, request)), || format!("a frame split and joined by {rows:?}"))
+    }
+
+    fn there_and_back(&mut self, row: &Row, request: u64) -> bool {
+        let [rfci, ftype, ..] = *row;
+        let mut x = right_frame(&mut Random::new(1 + ftype), 1, ftype);
+        x.quality = 1;
+        x.indication = if ftype <= 8 { ftype } else { 0 };
+        x.request = if ftype <= 9 { request } else { 0 };
+        let octets = frame::layout(1, &x);
+        let sizes = [row[2], row[3], row[4]].map(|size| size as usize);
+        let Some(Ok(subflows)) = self.down(&octets, sizes.map(|size| (size + 7) / 8)) else { return false };
+        let starts = [0, sizes[0], sizes[0] + sizes[1]];
+        let split = (0..3).all(|i| {
+            let u = frame::bits(&subflows[i]);
+            u.len() == (sizes[i] + 7) / 8 * 8 && (1..=sizes[i]).all(|k| u[k - 1] == x.core[k - 1 + starts[i]])
+        });
+        split && self.up(0, rfci, &subflows, octets.len()) == Some(Ok(octets))
+    }
+
+    /// Document 01's SID frame joined from one sub-flow; frames without data; a third sub-flow, which begins at size 1 + size 2.
+    fn compare_cases(&mut self) -> bool {
+        let none = [vec![], vec![], vec![]];
+        let joined = self.fresh()
+            && self.assign(&[63, 9, 40, 0, 0, 0, 15, 0, 0, 0])
+            && self.rate(2)
+            && self.up(0, 63, &[vec![0, 0, 0, 0, 0x13], vec![], vec![]], 8) == Some(Ok(vec![0x98, 0x02, 0xA5, 0, 0, 0, 0, 0x13]))
+            && self.up(1, 63, &none, 1) == Some(Ok(vec![0xF0]))
+            && self.up(0, 0, &none, 1) == Some(Ok(vec![0xF8]))
+            && self.up(2, 0, &none, 1) == Some(Ok(vec![0xF0]))
+            && self.down(&[0xF8], [0; 3]) == Some(Ok(none));
+        let core = frame::bits(&[0x12, 0x34, 0x56, 0x78, 0x93]);
+        let octets = frame::layout(1, &frame::Frame { ftype: 9, quality: 0, indication: 0, request: 0, core });
+        let split = self.release()
+            && self.assign(&[0, 9, 8, 16, 16])
+            && self.down(&octets, [1, 2, 2]) == Some(Ok([vec![0x12], vec![0x34, 0x56], vec![0x78, 0x93]]));
+        agree(joined && split, || "a case that is written out".to_string())
+    }
+
+    /// Prints the counts; false where one of the possible answers never came.
+    pub fn show(&self) -> bool {
+        let shown = self.assigns.show("link_assign", &[0, 11, 15])
+            & self.releases.show("link_release", &[0, 14])
+            & self.rates.show("link_rate", &[0, 11])
+            & self.ups.show("link_up", &[0, 6, 10, 11, 13, 14, 16, 17])
+            & self.downs.show("link_down", &[0, 1, 2, 3, 4, 5, 6, 7, 10, 14, 16])
+            & self.in_strange.show("from a state that no call gave", &[0, 1, 2, 3, 4, 5, 6, 7, 10, 11, 13, 14, 15, 16, 17]);
+        println!("link_down accepted: {} forward nothing, {} a request", self.forwards[0], self.forwards[1]);
+        shown && self.forwards.into_iter().all(|count| count > 0)
+    }
+}
+
+/// The second program's answer as the library gives it.
+fn down_fields(done: &Result<Down, u64>) -> [u64; 10] {
+    match done {
+        Err(number) => [*number, 0, 0, 0, 0, 0, 0, 0, 0, 0],
+        Ok(done) => {
+            let [n1, n2, n3] = done.subflows.each_ref().map(|subflow| subflow.len() as u64);
+            let forwarded = done.forwarded.is_some() as u64;
+            [0, 0, 0, done.fqc, done.rfci, n1, n2, n3, forwarded, done.forwarded.unwrap_or(0)]
+        }
+    }
+}
+
+/// Prints what is wrong, if something is.
+fn agree(same: bool, wrong: impl FnOnce() -> String) -> bool {
+    if !same {
+        println!("{}", wrong());
+    }
+    same
+}
