@@ -17,7 +17,7 @@ fn usage() -> ! {
 
 fn main() {
     let mut args = std::env::args().skip(1);
-    let mut runs = 301; // a run takes a fifth of a millisecond: fewer can all fall into one disturbance
+    let mut runs = 301; // a run is short: a fifth of a millisecond
     while let Some(arg) = args.next() {
         match &arg[..] {
             "--check" => {
