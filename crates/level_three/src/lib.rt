@@ -1,17 +1,30 @@
-// Level three's own C interface (include/amrwb.h), the link: each function calls one entry and hands its answer on as numbers, as
-// specs/Flat.antt says. Every export is an entry.
+// Level three's C interface (include/amrwb.h): level two's calls, and the link's, each of which calls one entry and hands its answer on as
+// numbers, as specs/Flat.antt says. Every export is an entry.
 ghost use mathlib.Core.Path.{_≡_};
 ghost use lib.ListN.{length};
+ghost use Rattle.definitions.specs.Frames.{if1, if2, storage};
+ghost use Rattle.definitions.specs.Reading.{readCall, buildFrame};
+ghost use Rattle.definitions.specs.Order.{toCoreCall, toRowCall};
+ghost use Rattle.definitions.specs.Reception.{receptionClass};
+ghost use Rattle.recordings.specs.Recordings.{validateCall};
+ghost use Rattle.recordings.specs.Conversion.{convertCall, lengthCall};
+ghost use Rattle.recordings.specs.Viewer.{openCall, viewCall};
+ghost use Rattle.recordings.specs.Report.{reportCall};
 ghost use Rattle.links.specs.Calls.{freshLink, upCall, downCall};
 ghost use Rattle.links.specs.History.{linkStep, assign, release, rate};
 ghost use Rattle.link_state.specs.Answers.{verdictOf, movedOf};
-ghost use Rattle.answers.specs.Flat.{FlatOutput};
+ghost use Rattle.answers.specs.Flat.{placedNumbers, FlatConversion, FlatOutput, FlatFrame};
 ghost use Rattle.downlink.specs.Answers.{forwardOf, downOf};
+ghost use Rattle.level_two.specs.Flat.{classNumbers, openNumbers, FlatView, reportNumbers};
 ghost use Rattle.level_three.specs.Flat.{refusalNumber, linkNumbers, isForwarded, requestForwarded, downNumbers, FlatDown};
 use answers::Answer;
+use answers::FrameAnswer;
 use answers::built_answer;
 use downlink::Downlinked;
 use downlink::Forward;
+use level_two::ClassAnswer;
+use level_two::ReportAnswer;
+use level_two::ViewAnswer;
 use link_state::Moved;
 use link_state::Verdict;
 use links::Link;
@@ -116,6 +129,130 @@ fn down_answer(d: Downlinked, link: Link) -> DownNumbers
         },
     }
 }
+
+// Level two's calls, as they are there.
+
+#[no_mangle]
+pub extern "C" fn amrwb_validate(format: u64, rec: &[u8]) -> Answer
+    ensures { λ r. ⌜ r ≡ placedNumbers (validateCall format (now (rec .entry))) ⌝ }
+{
+    level_two::amrwb_validate(format, rec)
+}
+
+#[no_mangle]
+pub extern "C" fn amrwb_convert(
+    from: u64,
+    to: u64,
+    request: u64,
+    rec: &[u8],
+    out: &mut [u8],
+) -> Answer
+    ensures { λ r. ⌜ FlatConversion (convertCall from to request (now (rec .entry)) (length (now (out .entry)))) (now (out .entry)) (now (out .exit)) r ⌝ }
+{
+    level_two::amrwb_convert(from, to, request, rec, out)
+}
+
+#[no_mangle]
+pub extern "C" fn amrwb_convert_length(from: u64, to: u64, request: u64, rec: &[u8]) -> Answer
+    ensures { λ r. ⌜ r ≡ placedNumbers (lengthCall from to request (now (rec .entry))) ⌝ }
+{
+    level_two::amrwb_convert_length(from, to, request, rec)
+}
+
+#[no_mangle]
+pub extern "C" fn amrwb_read_frame(format: u64, octets: &[u8], core: &mut [u8]) -> FrameAnswer
+    ensures { λ r. ⌜ FlatFrame (readCall format (now (octets .entry)) (length (now (core .entry)))) (now (core .entry)) (now (core .exit)) r ⌝ }
+{
+    level_two::amrwb_read_frame(format, octets, core)
+}
+
+#[no_mangle]
+pub extern "C" fn amrwb_build_if1(
+    frame_type: u64,
+    quality: u64,
+    indication: u64,
+    request: u64,
+    core: &[u8],
+    out: &mut [u8],
+) -> Answer
+    ensures { λ r. ⌜ FlatOutput (buildFrame if1 «frame_type» quality indication request (now (core .entry)) (length (now (out .entry)))) (now (out .entry)) (now (out .exit)) r ⌝ }
+{
+    level_two::amrwb_build_if1(frame_type, quality, indication, request, core, out)
+}
+
+#[no_mangle]
+pub extern "C" fn amrwb_build_if2(
+    frame_type: u64,
+    quality: u64,
+    core: &[u8],
+    out: &mut [u8],
+) -> Answer
+    ensures { λ r. ⌜ FlatOutput (buildFrame if2 «frame_type» quality 0 0 (now (core .entry)) (length (now (out .entry)))) (now (out .entry)) (now (out .exit)) r ⌝ }
+{
+    level_two::amrwb_build_if2(frame_type, quality, core, out)
+}
+
+#[no_mangle]
+pub extern "C" fn amrwb_build_stored(
+    frame_type: u64,
+    quality: u64,
+    core: &[u8],
+    out: &mut [u8],
+) -> Answer
+    ensures { λ r. ⌜ FlatOutput (buildFrame storage «frame_type» quality 0 0 (now (core .entry)) (length (now (out .entry)))) (now (out .entry)) (now (out .exit)) r ⌝ }
+{
+    level_two::amrwb_build_stored(frame_type, quality, core, out)
+}
+
+#[no_mangle]
+pub extern "C" fn amrwb_order_to_core(mode: u64, row: &[u8], core: &mut [u8]) -> Answer
+    ensures { λ r. ⌜ FlatOutput (toCoreCall mode (now (row .entry)) (length (now (core .entry)))) (now (core .entry)) (now (core .exit)) r ⌝ }
+{
+    level_two::amrwb_order_to_core(mode, row, core)
+}
+
+#[no_mangle]
+pub extern "C" fn amrwb_order_to_row(mode: u64, core: &[u8], row: &mut [u8]) -> Answer
+    ensures { λ r. ⌜ FlatOutput (toRowCall mode (now (core .entry)) (length (now (row .entry)))) (now (row .entry)) (now (row .exit)) r ⌝ }
+{
+    level_two::amrwb_order_to_row(mode, core, row)
+}
+
+#[no_mangle]
+pub extern "C" fn amrwb_class(frame_type: u64, quality: u64, sti: u64) -> ClassAnswer
+    ensures { λ r. ⌜ r ≡ classNumbers (receptionClass «frame_type» quality sti) ⌝ }
+{
+    level_two::amrwb_class(frame_type, quality, sti)
+}
+
+#[no_mangle]
+pub extern "C" fn amrwb_view_open(format: u64, rec: &[u8]) -> ViewAnswer
+    ensures { λ r. ⌜ r ≡ openNumbers (openCall format (now (rec .entry))) ⌝ }
+{
+    level_two::amrwb_view_open(format, rec)
+}
+
+#[no_mangle]
+pub extern "C" fn amrwb_view_next(
+    format: u64,
+    offset: u64,
+    number: u64,
+    rec: &[u8],
+    core: &mut [u8],
+) -> ViewAnswer
+    ensures { λ r. ⌜ FlatView (viewCall format offset number (now (rec .entry)) (length (now (core .entry)))) (number, offset) (now (core .entry)) (now (core .exit)) r ⌝ }
+{
+    level_two::amrwb_view_next(format, offset, number, rec, core)
+}
+
+#[no_mangle]
+pub extern "C" fn amrwb_report(rec: &[u8]) -> ReportAnswer
+    ensures { λ r. ⌜ r ≡ reportNumbers (reportCall (now (rec .entry))) ⌝ }
+{
+    level_two::amrwb_report(rec)
+}
+
+// The link.
 
 #[no_mangle]
 pub extern "C" fn amrwb_link_fresh() -> Link

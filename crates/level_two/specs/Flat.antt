@@ -4,39 +4,14 @@ use mathlib.Core.Path.{_≡_}
 use mathlib.Core.List.{List}
 use Prim.Native.Nat.{ℕ}
 use Rattle.definitions.specs.Outcome.{Outcome, refused, ok}
-use Rattle.definitions.specs.Frames.{Frame, coreOctets}
-use Rattle.definitions.specs.Reading.{coreAfter}
+use Rattle.definitions.specs.Frames.{coreOctets}
 use Rattle.definitions.specs.Reception.{SpeechClass, speech-good, speech-bad, SidClass, sid-first, sid-update, sid-bad, Reception, speech, sid, speech-lost, no-data}
 use Rattle.recordings.specs.Placed.{Placed, refusedAt, done}
 use Rattle.recordings.specs.Viewer.{View, shows, end, viewAfter}
 use Rattle.recordings.specs.Report.{Report}
-use Rattle.level_two.specs.declared.FrameAnswer.{FrameAnswer}
 use Rattle.level_two.specs.declared.ClassAnswer.{ClassAnswer}
 use Rattle.level_two.specs.declared.ViewAnswer.{ViewAnswer}
 use Rattle.level_two.specs.declared.ReportAnswer.{ReportAnswer}
-
--- the fields, and the octets of the packed core
-abbrev pub frameNumbers : Outcome (Frame × ℕ) → FrameAnswer
-frameNumbers (refused n) = record {
-  refusal = n;
-  frame = 0;
-  octet = 0;
-  «frame_type» = 0;
-  quality = 0;
-  indication = 0;
-  request = 0;
-  «core_octets» = 0;
-}
-frameNumbers (ok y) = record {
-  refusal = 0;
-  frame = 0;
-  octet = 0;
-  «frame_type» = y .0 .type;
-  quality = y .0 .quality;
-  indication = y .0 .indication;
-  request = y .0 .request;
-  «core_octets» = y .1;
-}
 
 abbrev pub speechNumber : SpeechClass → ℕ
 speechNumber speech-good = 1
@@ -56,11 +31,6 @@ classNumber no-data = 7
 abbrev pub classNumbers : Outcome Reception → ClassAnswer
 classNumbers (refused n) = record { refusal = n; frame = 0; octet = 0; class = 0 }
 classNumbers (ok c) = record { refusal = 0; frame = 0; octet = 0; class = classNumber c }
-
--- a call that reads a frame: the answer, and the core's buffer, d₀ before and d after it
-pub record FlatFrame (o : Outcome (Frame × ℕ)) (d₀ d : List ℕ) (r : FrameAnswer) : Type 0 where
-  pub answer : r ≡ frameNumbers o
-  pub buffer : d ≡ coreAfter o d₀
 
 -- a viewer's answer that shows no frame, with the number and the offset for the next call
 abbrev pub unshown : (refusal frame octet end number offset : ℕ) → ViewAnswer

@@ -10,13 +10,14 @@ ghost use Rattle.recordings.specs.Recordings.{validateCall};
 ghost use Rattle.recordings.specs.Conversion.{convertCall, lengthCall};
 ghost use Rattle.recordings.specs.Viewer.{openCall, viewCall};
 ghost use Rattle.recordings.specs.Report.{reportCall};
-ghost use Rattle.answers.specs.Flat.{placedNumbers, FlatConversion, FlatOutput};
-ghost use Rattle.level_two.specs.Flat.{FlatFrame, speechNumber, sidNumber, classNumber, classNumbers, unshown, openNumbers, FlatView, reportNumbers};
+ghost use Rattle.answers.specs.Flat.{placedNumbers, FlatConversion, FlatOutput, FlatFrame};
+ghost use Rattle.level_two.specs.Flat.{speechNumber, sidNumber, classNumber, classNumbers, unshown, openNumbers, FlatView, reportNumbers};
 ghost use Rattle.reception.specs.Classes.{speechOf, sidOf, receptionOf};
 use answers::Answer;
+use answers::FrameAnswer;
 use answers::built_answer;
 use answers::counts_answer;
-use frame::Reading;
+use answers::read_answer;
 use frame::table::core_octets;
 use reception::Classified;
 use reception::Reception;
@@ -28,18 +29,6 @@ use viewer::Shown;
 
 // The highest type that has a core.
 const SID: u8 = frame::SID as u8;
-
-#[repr(C)]
-pub struct FrameAnswer {
-    pub refusal: u64,
-    pub frame: u64,
-    pub octet: u64,
-    pub frame_type: u64,
-    pub quality: u64,
-    pub indication: u64,
-    pub request: u64,
-    pub core_octets: u64,
-}
 
 #[repr(C)]
 pub struct ClassAnswer {
@@ -108,28 +97,7 @@ pub extern "C" fn amrwb_convert_length(from: u64, to: u64, request: u64, rec: &[
 pub extern "C" fn amrwb_read_frame(format: u64, octets: &[u8], core: &mut [u8]) -> FrameAnswer
     ensures { λ r. ⌜ FlatFrame (readCall format (now (octets .entry)) (length (now (core .entry)))) (now (core .entry)) (now (core .exit)) r ⌝ }
 {
-    match frame_reader::read_frame(format, octets, core) {
-        Reading::Frame(h, n) => FrameAnswer {
-            refusal: 0,
-            frame: 0,
-            octet: 0,
-            frame_type: h.frame_type as u64,
-            quality: h.quality as u64,
-            indication: h.indication as u64,
-            request: h.request as u64,
-            core_octets: n as u64,
-        },
-        Reading::Refused(e) => FrameAnswer {
-            refusal: frame::refusal_number(e),
-            frame: 0,
-            octet: 0,
-            frame_type: 0,
-            quality: 0,
-            indication: 0,
-            request: 0,
-            core_octets: 0,
-        },
-    }
+    read_answer(format, octets, core)
 }
 
 #[no_mangle]
@@ -143,7 +111,7 @@ pub extern "C" fn amrwb_build_if1(
 ) -> Answer
     ensures { λ r. ⌜ FlatOutput (buildFrame if1 «frame_type» quality indication request (now (core .entry)) (length (now (out .entry)))) (now (out .entry)) (now (out .exit)) r ⌝ }
 {
-    built_answer(frame_builder::build_if1(frame_type, quality, indication, request, core, out))
+    level_one::amrwb_build_if1(frame_type, quality, indication, request, core, out)
 }
 
 #[no_mangle]
@@ -155,7 +123,7 @@ pub extern "C" fn amrwb_build_if2(
 ) -> Answer
     ensures { λ r. ⌜ FlatOutput (buildFrame if2 «frame_type» quality 0 0 (now (core .entry)) (length (now (out .entry)))) (now (out .entry)) (now (out .exit)) r ⌝ }
 {
-    built_answer(frame_builder::build_if2(frame_type, quality, core, out))
+    level_one::amrwb_build_if2(frame_type, quality, core, out)
 }
 
 #[no_mangle]

@@ -2,8 +2,8 @@
 use borrow.Author.Needs.{needs}
 use mathlib.Core.Path.{ap, _∙_}
 use Rattle.answers.specs.Flat.{answerNumbers}
-use Rattle.level_two.proofs.amrwb_build_if2.Statement.{statement}
-use Rattle.level_two.proofs.amrwb_build_if2.Tie as tie
+use Rattle.level_one.proofs.amrwb_build_if2.Statement.{statement}
+use Rattle.level_one.proofs.amrwb_build_if2.Tie as tie
 
 build-if2-requires : tie.Need-build-if2-requires
 build-if2-requires c κs = search needs

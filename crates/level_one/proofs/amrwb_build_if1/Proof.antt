@@ -2,8 +2,8 @@
 use borrow.Author.Needs.{needs}
 use mathlib.Core.Path.{ap, _∙_}
 use Rattle.answers.specs.Flat.{answerNumbers}
-use Rattle.level_two.proofs.amrwb_build_if1.Statement.{statement}
-use Rattle.level_two.proofs.amrwb_build_if1.Tie as tie
+use Rattle.level_one.proofs.amrwb_build_if1.Statement.{statement}
+use Rattle.level_one.proofs.amrwb_build_if1.Tie as tie
 
 build-if1-requires : tie.Need-build-if1-requires
 build-if1-requires c κs = search needs

@@ -1,12 +1,11 @@
--- `amrwb_read_frame` meets its contract: the entry's promise, as numbers. Assumes nothing.
+-- `read_answer` meets its contract: the entry's promise, as numbers. Assumes nothing.
 use borrow.Author.Needs.{needs}
 use mathlib.Core.Path.{sym, ap, _∙_}
-use Rattle.definitions.specs.Outcome.{refused}
 use Rattle.definitions.specs.Reading.{bufferCore}
 use Rattle.frame.specs.Answers.{readingOf}
-use Rattle.level_two.specs.Flat.{frameNumbers}
-use Rattle.level_two.proofs.amrwb_read_frame.Statement.{statement}
-use Rattle.level_two.proofs.amrwb_read_frame.Tie as tie
+use Rattle.answers.specs.Flat.{frameNumbers}
+use Rattle.answers.proofs.read_answer.Statement.{statement}
+use Rattle.answers.proofs.read_answer.Tie as tie
 
 read-frame-requires : tie.Need-read-frame-requires
 read-frame-requires c κs = search needs
@@ -29,8 +28,8 @@ cast-t14 c = search needs
 enum-known-e : tie.Need-enum-known-e
 enum-known-e c = search needs
 
-refusal-number-requires : tie.Need-refusal-number-requires
-refusal-number-requires c κs = search needs
+refused-frame-requires : tie.Need-refused-frame-requires
+refused-frame-requires c κs = search needs
 
 same-length : tie.Need-same-length
 same-length c = search needs
@@ -49,12 +48,12 @@ returns-2 c =
     let r = c .before .before .before .before .before .before .read-frame in
     let core = bufferCore (r .last .1 .1 .0) in
     record {
-      answer = ap (λ n. frameNumbers (refused n)) (c .refusal-number .ensures) ∙ ap frameNumbers (sym (ap (readingOf core) (c .before .before .e .given .1)) ∙ r .ensures .answer);
+      answer = c .refused-frame .ensures ∙ ap frameNumbers (sym (ap (readingOf core) (c .before .before .e .given .1)) ∙ r .ensures .answer);
       buffer = r .ensures .buffer;
     }
 
-pub amrwb-read-frame-spec : {M : Type 1} → statement M
-amrwb-read-frame-spec =
+pub read-answer-spec : {M : Type 1} → statement M
+read-answer-spec =
     tie.close
     (tie.spec
     read-frame-requires
@@ -64,7 +63,7 @@ amrwb-read-frame-spec =
     cast-t13
     cast-t14
     enum-known-e
-    refusal-number-requires
+    refused-frame-requires
     same-length
     returns
     same-length-2
