@@ -1,4 +1,4 @@
-.PHONY: demo report test bench
+.PHONY: demo report adapter test bench
 
 # converts a sample recording from storage format to IF1, to IF2 and back
 demo:
@@ -9,6 +9,10 @@ demo:
 report:
 	@tests/build report_program </dev/null
 	@target/bin/report_program
+
+# the command-line program, target/tools/adapter: see target/tools/adapter --help
+adapter:
+	@tests/build adapter
 
 # everything: proofs, must-fail edits, the compiled libraries against the second program
 test:
