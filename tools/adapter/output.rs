@@ -23,7 +23,7 @@ pub fn write_whole(path: &Path, octets: &[u8]) -> io::Result<()> {
     let old = match fs::metadata(path) {
         Ok(metadata) if metadata.is_dir() => return Err(ErrorKind::IsADirectory.into()),
         Ok(metadata) if !metadata.is_file() => return OpenOptions::new().write(true).open(path)?.write_all(octets),
-        Ok(metadata) if metadata.permissions().readonly() => return Err(ErrorKind::PermissionDenied.into()),
+        Ok(metadata) if metadata.permissions().readonly() => return Err(io::Error::other("it is write-protected")),
         Ok(metadata) => Some(metadata.permissions()),
         Err(e) if e.kind() == ErrorKind::NotFound => None,
         Err(e) => return Err(e),
