@@ -4,7 +4,7 @@ use crate::files::{identity, shown, Identity, Input};
 use crate::format::Format;
 use crate::inputs::{open, over};
 use crate::library;
-use crate::output::{write_whole, Text};
+use crate::output::{write_whole, StandardOutput};
 use crate::trouble::{Status, Trouble};
 use std::collections::{HashMap, HashSet};
 use std::ffi::OsStr;
@@ -22,14 +22,14 @@ pub fn convert(options: &Options) -> Status {
         Ok(to) => to,
         Err(trouble) => return trouble.tell("adapter: convert"),
     };
-    over(&options.inputs, true, |input, text| convert_one(options, to, input, text))
+    over(&options.inputs, true, |input, out| convert_one(options, to, input, out))
 }
 
-fn convert_one(options: &Options, to: Format, input: &Input, text: &mut Text) -> Result<(), Trouble> {
+fn convert_one(options: &Options, to: Format, input: &Input, out: &mut StandardOutput) -> Result<(), Trouble> {
     let (recording, from) = open(input, options.from)?;
     let octets = library::convert(from, to, options.request, &recording).map_err(|r| Trouble::refused(r, &recording))?;
     match target(options, to, input)? {
-        Target::Standard => Ok(text.write_all(&octets)?),
+        Target::Standard => Ok(out.write_all(&octets)?),
         Target::File(path) => write_whole(&path, &octets).map_err(|e| Trouble::Failed(shown(path.as_os_str()), e)),
     }
 }
@@ -42,7 +42,6 @@ fn prepare(options: &Options) -> Result<Format, Trouble> {
         (Some(_), Some(_), _) => return misused("--output and --into exclude each other"),
         (_, None, 2..) => return misused("several inputs need --into"),
         (_, Some(folder), _) => check_folder(folder)?,
-        (None, None, _) if io::stdout().is_terminal() => return misused("octets are not written to a terminal; name an --output"),
         _ => (),
     }
     check_targets(options, to)?;
@@ -64,7 +63,13 @@ fn check_targets(options: &Options, to: Format) -> Result<(), Trouble> {
     let mut paths: HashMap<PathBuf, &Input> = HashMap::new();
     let mut files: HashMap<Identity, &Input> = HashMap::new();
     for input in &options.inputs {
-        let Target::File(path) = target(options, to, input)? else { continue };
+        let path = match target(options, to, input)? {
+            Target::File(path) => path,
+            Target::Standard if io::stdout().is_terminal() => {
+                return Err(Trouble::Misused("octets are not written to a terminal; name an --output file".to_string()));
+            }
+            Target::Standard => continue,
+        };
         let name = shown(path.as_os_str());
         let file = identity(&path);
         if file.is_some_and(|file| inputs.contains(&file)) {
@@ -86,10 +91,12 @@ fn target(options: &Options, to: Format, input: &Input) -> Result<Target, Troubl
             _ => Target::Standard,
         });
     };
-    match input {
-        Input::File(path) if path.file_name().is_some() => {
-            Ok(Target::File(folder.join(Path::new(path.file_name().unwrap_or_default()).with_extension(to.extension()))))
-        }
-        _ => Err(Trouble::Misused(format!("{} has no file name, which --into needs", input.name()))),
+    let name = match input {
+        Input::File(path) => path.file_name(),
+        Input::Standard => None,
+    };
+    match name {
+        Some(name) => Ok(Target::File(folder.join(Path::new(name).with_extension(to.extension())))),
+        None => Err(Trouble::Misused(format!("{} has no file name, which --into needs", input.name()))),
     }
 }

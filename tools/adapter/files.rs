@@ -46,7 +46,7 @@ impl Input {
     }
 }
 
-/// Standard input or output as a file. What Rust itself gives treats a closed one as empty, and writes by lines.
+/// Standard input or output as a file: Rust's own has no metadata, and writes by lines.
 pub fn stream(standard: &impl AsFd) -> io::Result<File> {
     Ok(File::from(standard.as_fd().try_clone_to_owned()?))
 }

@@ -54,11 +54,11 @@ Writes a recording in another format: if1, if2 or stored.
   --into FOLDER        writes each input to this folder, under the input's name with the extension .if1, .if2 or .awb;
                        needed for several inputs; the folder must be there
 
-An output file appears whole or not at all: it is written beside, under a name like .adapter-123-0.tmp, which stays behind
-only where the program is killed, and renamed. A file that is there already is replaced so, with its permissions kept,
-unless it is write-protected; a symbolic link stays, and the file that it leads to is replaced. A device or a pipe is
-written directly. An output that is an input, under any name, and two inputs with one output are wrong use, told before
-anything is written. A refused input leaves no output.
+An output file appears whole or not at all: it is written beside, under a name like .adapter-123-0.tmp, and renamed; only
+a killed program leaves that name behind. A file that is there already is replaced so, with its permissions kept, unless
+it is write-protected; a symbolic link stays, and the file that it leads to is replaced. A device or a pipe is written
+directly. An output that is an input, under any name, and two inputs with one output are wrong use, told before anything
+is written. A refused input leaves no output.
 
 Exit status: 0 done, 1 refused, 2 wrong use, 3 input or output failed.
 ";

@@ -1,7 +1,7 @@
 //! A command over its inputs, one after another, with progress and a summary.
 use crate::files::{self, Input};
 use crate::format::{told, Format};
-use crate::output::{self, Text};
+use crate::output::{self, StandardOutput};
 use crate::trouble::{say, Status, Trouble};
 use std::io::{self, IsTerminal, Write};
 
@@ -29,12 +29,17 @@ impl Progress {
         Progress { shown: 0, on }
     }
 
-    fn show(&mut self, line: &str) {
-        if self.on {
-            self.clear();
-            say(line);
-            self.shown = line.len();
+    fn show(&mut self, at: usize, inputs: usize, troubles: usize) {
+        if !self.on {
+            return;
         }
+        let line = match troubles {
+            0 => format!("{at} of {inputs}"),
+            _ => format!("{at} of {inputs}, {troubles} not done"),
+        };
+        self.clear();
+        say(&line);
+        self.shown = line.len();
     }
 
     fn clear(&mut self) {
@@ -47,25 +52,25 @@ impl Progress {
 
 /// Runs a command over every input in turn; silent is one that prints nothing. Trouble with one input does not stop the others, but for
 /// trouble with standard output.
-pub fn over(inputs: &[Input], silent: bool, command: impl Fn(&Input, &mut Text) -> Result<(), Trouble>) -> Status {
-    let mut text = match output_apart(inputs) {
-        Ok(text) => text,
+pub fn over(inputs: &[Input], silent: bool, command: impl Fn(&Input, &mut StandardOutput) -> Result<(), Trouble>) -> Status {
+    let mut out = match output_apart(inputs) {
+        Ok(out) => out,
         Err((name, trouble)) => return trouble.tell(&name),
     };
     let mut progress = Progress::new(inputs.len(), silent);
     let mut troubles = Vec::new();
     for (i, input) in inputs.iter().enumerate() {
-        progress.show(&format!("{} of {}{}", i + 1, inputs.len(), counts(&troubles)));
-        let done = command(input, &mut text);
+        progress.show(i + 1, inputs.len(), troubles.len());
+        let done = command(input, &mut out);
         // first what was printed up to the trouble, then the message
-        let written = text.flush();
+        let written = out.flush();
         let Err(trouble) = written.map_err(Trouble::Output).and(done) else { continue };
         progress.clear();
-        trouble.tell(&input.name());
-        troubles.push((input, trouble));
-        if let Some((_, Trouble::Output(_))) = troubles.last() {
-            break;
+        let status = trouble.tell(&input.name());
+        if let Trouble::Output(_) = trouble {
+            return status;
         }
+        troubles.push((input, trouble));
     }
     progress.clear();
     if inputs.len() > 1 && !troubles.is_empty() {
@@ -75,12 +80,12 @@ pub fn over(inputs: &[Input], silent: bool, command: impl Fn(&Input, &mut Text) 
 }
 
 /// Standard output, which must be no input: that would be written while it is read.
-fn output_apart(inputs: &[Input]) -> Result<Text, (String, Trouble)> {
-    let text = output::text().map_err(|e| (String::new(), Trouble::Output(e)))?;
-    let output = text.get_ref().metadata().ok().and_then(files::regular);
+fn output_apart(inputs: &[Input]) -> Result<StandardOutput, (String, Trouble)> {
+    let out = output::standard().map_err(|e| (String::new(), Trouble::Output(e)))?;
+    let output = out.get_ref().metadata().ok().and_then(files::regular);
     match inputs.iter().find(|input| output.is_some() && input.identity() == output) {
         Some(input) => Err((input.name(), Trouble::Misused("is standard output too; an input is never written".to_string()))),
-        None => Ok(text),
+        None => Ok(out),
     }
 }
 

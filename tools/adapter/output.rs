@@ -4,15 +4,15 @@ use std::fs::{self, File, OpenOptions, Permissions};
 use std::io::{self, BufWriter, ErrorKind, Write};
 use std::path::{Path, PathBuf};
 
-/// Standard output for text, written in large pieces.
-pub type Text = BufWriter<File>;
+/// Written in large pieces.
+pub type StandardOutput = BufWriter<File>;
 
-pub fn text() -> io::Result<Text> {
+pub fn standard() -> io::Result<StandardOutput> {
     Ok(BufWriter::with_capacity(1 << 16, stream(&io::stdout())?))
 }
 
-pub fn print(words: &str) -> io::Result<()> {
-    stream(&io::stdout())?.write_all(words.as_bytes())
+pub fn print(text: &str) -> io::Result<()> {
+    stream(&io::stdout())?.write_all(text.as_bytes())
 }
 
 /// As many links as Linux follows.

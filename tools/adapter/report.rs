@@ -4,7 +4,7 @@ use crate::files::Input;
 use crate::format::Format;
 use crate::inputs::{open, over, read};
 use crate::library::{self, Counts, Viewer, LIMIT, REPORT_LIMIT, SID};
-use crate::output::Text;
+use crate::output::StandardOutput;
 use crate::refusal::Refusal;
 use crate::trouble::{Status, Trouble};
 use std::io::Write;
@@ -13,15 +13,15 @@ pub fn report(options: &Options) -> Status {
     if options.from.is_some() && !options.long {
         return Trouble::Misused("--from needs --long; see adapter report --help".to_string()).tell("adapter: report");
     }
-    over(&options.inputs, false, |input, text| {
+    over(&options.inputs, false, |input, out| {
         if options.inputs.len() > 1 {
-            writeln!(text, "{}:", input.name())?;
+            writeln!(out, "{}:", input.name())?;
         }
-        report_one(options, input, text)
+        report_one(options, input, out)
     })
 }
 
-fn report_one(options: &Options, input: &Input, text: &mut Text) -> Result<(), Trouble> {
+fn report_one(options: &Options, input: &Input, out: &mut StandardOutput) -> Result<(), Trouble> {
     let (recording, format, counts) = match options.long {
         true => {
             let (recording, format) = open(input, options.from)?;
@@ -35,9 +35,9 @@ fn report_one(options: &Options, input: &Input, text: &mut Text) -> Result<(), T
         }
     };
     match counts {
-        Ok(counts) => Ok(print_counts(format, &counts, text)?),
+        Ok(counts) => Ok(print_counts(format, &counts, out)?),
         Err(refusal) => {
-            writeln!(text, "refusal={}\nframe={}\noctet={}", refusal.number, refusal.frame, refusal.octet)?;
+            writeln!(out, "refusal={}\nframe={}\noctet={}", refusal.number, refusal.frame, refusal.octet)?;
             Err(explained(refusal, &recording))
         }
     }
@@ -67,7 +67,7 @@ fn count(format: Format, recording: &[u8]) -> Result<Counts, Refusal> {
     Ok(counts)
 }
 
-fn print_counts(format: Format, c: &Counts, text: &mut Text) -> std::io::Result<()> {
-    writeln!(text, "format={}\noctets={}\nframes={}", format as u64, c.octets, c.frames)?;
-    writeln!(text, "speech={}\ncomfort={}\nlost={}\nempty={}", c.speech, c.comfort, c.lost, c.empty)
+fn print_counts(format: Format, c: &Counts, out: &mut StandardOutput) -> std::io::Result<()> {
+    writeln!(out, "format={}\noctets={}\nframes={}", format as u64, c.octets, c.frames)?;
+    writeln!(out, "speech={}\ncomfort={}\nlost={}\nempty={}", c.speech, c.comfort, c.lost, c.empty)
 }

@@ -5,16 +5,16 @@ use crate::files::Input;
 use crate::format::{Format, FORMATS};
 use crate::inputs::{open, over};
 use crate::library::{self, Frame, Viewer, SID};
-use crate::output::Text;
+use crate::output::StandardOutput;
 use crate::refusal::{place, Refusal};
 use crate::trouble::{Status, Trouble};
 use std::io::Write;
 
 pub fn round_trip(options: &Options) -> Status {
-    over(&options.inputs, false, |input, text| round_trip_one(options, input, text))
+    over(&options.inputs, false, |input, out| round_trip_one(options, input, out))
 }
 
-fn round_trip_one(options: &Options, input: &Input, text: &mut Text) -> Result<(), Trouble> {
+fn round_trip_one(options: &Options, input: &Input, out: &mut StandardOutput) -> Result<(), Trouble> {
     let (recording, from) = open(input, options.from)?;
     if options.via == Some(from) {
         return Err(Trouble::Misused(format!("--via {} is its own format", from.name())));
@@ -24,7 +24,7 @@ fn round_trip_one(options: &Options, input: &Input, text: &mut Text) -> Result<(
     for via in FORMATS.into_iter().filter(|f| *f != from && options.via.unwrap_or(*f) == *f) {
         let trip = format!("{} to {} and back", from.name(), via.name());
         match there_and_back(from, via, options.request, &recording) {
-            Ok(()) => writeln!(text, "{}: {trip}: unchanged, {frames} frames", input.name())?,
+            Ok(()) => writeln!(out, "{}: {trip}: unchanged, {frames} frames", input.name())?,
             Err(what) => changed.push(format!("{trip}: {what}")),
         }
     }
