@@ -1,4 +1,4 @@
-.PHONY: demo report adapter test bench
+.PHONY: demo report adapter test fuzz bench
 
 # converts a sample recording from storage format to IF1, to IF2 and back
 demo:
@@ -17,6 +17,12 @@ adapter:
 # everything: proofs, must-fail edits, the compiled libraries against the second program
 test:
 	@tests/run
+
+# the comparison with the second program for so many seconds, with another seed each time
+SECONDS = 60
+fuzz:
+	@tests/build compare
+	@target/tools/compare --seconds $(SECONDS)
 
 # how fast the library converts, orders bits, and joins and splits frames for the link, beside plain Rust: Markdown tables
 bench:

@@ -1,33 +1,13 @@
-//! Compares the report in level two's library with the second program.
-use crate::compare_recordings::{agree, change_the_header, filled, recording_for, right_frame};
+//! Compares the report with the second program.
+use crate::compare_recordings::shown;
 use crate::frame;
-use crate::random::{Random, Tally, TYPES};
+use crate::library::two_calls;
+use crate::random::{Random, TYPES};
+use crate::random_frames::right_frame;
+use crate::random_recordings::{change_the_header, filled, format_like, some_recording};
 use crate::recording::{Refusal, HEADER};
 use crate::report::{report, LIMIT};
-
-#[repr(C)]
-struct Counts {
-    refusal: u64,
-    frame: u64,
-    octet: u64,
-    octets: u64,
-    frames: u64,
-    speech: u64,
-    comfort: u64,
-    lost: u64,
-    empty: u64,
-}
-
-impl Counts {
-    fn fields(&self) -> [u64; 9] {
-        let Counts { refusal, frame, octet, octets, frames, speech, comfort, lost, empty } = *self;
-        [refusal, frame, octet, octets, frames, speech, comfort, lost, empty]
-    }
-}
-
-extern "C" {
-    fn amrwb_report(rec: *const u8, len: usize) -> Counts;
-}
+use crate::tally::Tally;
 
 /// Document 01's sample: a header, type 0, type 9 and type 15, and what is printed for them.
 const SAMPLE: &[u8] = b"#!AMR-WB\n\x04\0\0\0\0\0\0\0\0\0\0\0\0\0\0\0\0\0\x4C\0\0\0\0\0\x7C";
@@ -43,58 +23,51 @@ fn long(g: &mut Random, octets: usize) -> Vec<u8> {
     rec
 }
 
-/// The call, and how often each answer came.
-#[derive(Default)]
-pub struct Reports(Tally);
-
-impl Reports {
-    /// One recording by chance, seldom one about as long as the limit; true where both agree.
-    pub fn compare(&mut self, g: &mut Random) -> bool {
-        if !g.one_in(1000) {
-            let rec = recording_for(g, 3);
-            return self.compare_report(&rec);
-        }
-        let octets = LIMIT - 3 + g.below(7) as usize;
-        let mut rec = long(g, octets);
-        match g.below(4) {
-            0 => change_the_header(g, &mut rec),
-            1 => rec[octets - 1] = g.next() as u8,
-            _ => {}
-        }
-        self.compare_report(&rec)
+/// One recording by chance, seldom one about as long as the limit; true where the libraries and the second program agree.
+pub fn compare(g: &mut Random, tally: &mut Tally) -> bool {
+    if !g.one_in(1000) {
+        let like = format_like(g, 3);
+        return compare_report(tally, &some_recording(g, like));
     }
-
-    fn compare_report(&mut self, rec: &[u8]) -> bool {
-        let kept = rec.to_vec();
-        let got = unsafe { amrwb_report(rec.as_ptr(), rec.len()) }.fields();
-        let want = match report(rec) {
-            Err(Refusal(refusal, frame, octet)) => [refusal, frame, octet, 0, 0, 0, 0, 0, 0],
-            Ok([octets, frames, speech, comfort, lost, empty]) => [0, 0, 0, octets, frames, speech, comfort, lost, empty],
-        };
-        self.0.count(want[0]);
-        agree(got == want && rec == kept, "report", rec, got, want)
+    let octets = LIMIT - 3 + g.index(7);
+    let mut rec = long(g, octets);
+    match g.below(4) {
+        0 => change_the_header(g, &mut rec),
+        1 => rec[octets - 1] = g.next() as u8,
+        _ => {}
     }
+    compare_report(tally, &rec)
+}
 
-    /// The paper's sample, and recordings about as long as the limit; true where both agree.
-    pub fn compare_limits(&mut self) -> bool {
-        let mut same = report(SAMPLE) == Ok(SAMPLE_COUNTS) && self.compare_report(SAMPLE) && self.compare_report(&[]);
-        for octets in LIMIT - 1..=LIMIT + 2 {
-            for ftype in TYPES {
-                let mut rec = filled(3, 3, ftype, octets);
-                same &= self.compare_report(&rec);
-                // a frame that is cut off
-                *rec.last_mut().unwrap() = 0x04;
-                same &= self.compare_report(&rec);
-                // 9 before 8
-                rec[0] ^= 1;
-                same &= self.compare_report(&rec);
-            }
-        }
-        same
-    }
+fn compare_report(tally: &mut Tally, rec: &[u8]) -> bool {
+    let kept = rec.to_vec();
+    let want = match report(&kept) {
+        Err(Refusal(refusal, frame, octet)) => [refusal, frame, octet, 0, 0, 0, 0, 0, 0],
+        Ok([octets, frames, speech, comfort, lost, empty]) => [0, 0, 0, octets, frames, speech, comfort, lost, empty],
+    };
+    two_calls().all(|(level, calls)| {
+        let got = unsafe { (calls.report)(rec.as_ptr(), rec.len()) }.fields();
+        let same = got == want && rec == kept;
+        tally.compared("report", level, want[0], same, || format!("{}: {got:?} and not {want:?}", shown(&kept)))
+    })
+}
 
-    /// Prints the counts; false where one of the possible answers never came.
-    pub fn show(&self) -> bool {
-        self.0.show("report", &[0, 2, 3, 5, 6, 8, 9])
-    }
+/// The paper's sample, and recordings about as long as the limit; true where all agree.
+pub fn compare_limits(tally: &mut Tally) -> bool {
+    let lengths = LIMIT - 1..=LIMIT + 2;
+    report(SAMPLE) == Ok(SAMPLE_COUNTS)
+        && compare_report(tally, SAMPLE)
+        && compare_report(tally, &[])
+        && lengths.into_iter().all(|octets| TYPES.into_iter().all(|ftype| compare_long(tally, ftype, octets)))
+}
+
+fn compare_long(tally: &mut Tally, ftype: u64, octets: usize) -> bool {
+    let mut rec = filled(3, 3, ftype, octets);
+    let right = compare_report(tally, &rec);
+    // a frame that is cut off
+    *rec.last_mut().unwrap() = 0x04;
+    let cut = compare_report(tally, &rec);
+    // 9 before 8
+    rec[0] ^= 1;
+    right && cut && compare_report(tally, &rec)
 }

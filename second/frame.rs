@@ -1,6 +1,10 @@
 //! One AMR-WB frame, written from the papers (document 01, TS 26.201, RFC 4867) in the plainest way: bits are vectors, the CRC is a
 //! long division. It shares no code with crates/.
 
+/// The last format that levels two and three have, and the last one of level one.
+pub const ALL_FORMATS: u64 = 3;
+pub const LEVEL_ONE_FORMATS: u64 = 2;
+
 pub struct Frame {
     pub ftype: u64,
     pub quality: u64,
@@ -93,9 +97,9 @@ fn sid_mode_high(ftype: u64, core: &[bool]) -> bool {
     ftype == 9 && number(&core[36..40]) > 8
 }
 
-/// Reads one frame that takes all of the octets, with room for its packed core.
-pub fn read(format: u64, s: &[u8], room: usize) -> Result<Frame, u64> {
-    if !(1..=3).contains(&format) {
+/// Reads one frame that takes all of the octets, with room for its packed core. `last` is the level's last format.
+pub fn read(last: u64, format: u64, s: &[u8], room: usize) -> Result<Frame, u64> {
+    if format < 1 || format > last {
         return Err(11);
     }
     if s.is_empty() {
@@ -164,19 +168,4 @@ pub fn build(format: u64, ftype: u64, quality: u64, indication: u64, request: u6
         return Err(10);
     }
     Ok(layout(format, &Frame { ftype, quality, indication, request, core: b[..k].to_vec() }))
-}
-
-/// 1 speech good, 2 speech bad, 3 SID first, 4 SID update, 5 SID bad, 6 speech lost, 7 no data.
-pub fn class(ftype: u64, quality: u64, sti: u64) -> Result<u64, u64> {
-    if ftype > 15 || quality > 1 || sti > 1 {
-        return Err(11);
-    }
-    match ftype {
-        0..=8 => Ok(2 - quality),
-        9 if quality == 0 => Ok(5),
-        9 => Ok(3 + sti),
-        14 => Ok(6),
-        15 => Ok(7),
-        _ => Err(2),
-    }
 }

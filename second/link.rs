@@ -134,7 +134,7 @@ pub fn down(link: &Link, octets: &[u8], rooms: [usize; 3]) -> Result<Down, u64> 
     if link.set.count == 0 {
         return Err(14);
     }
-    let x = frame::read(1, octets, usize::MAX)?;
+    let x = frame::read(frame::ALL_FORMATS, 1, octets, usize::MAX)?;
     let c = find(link, |c| c.ftype as u64 == x.ftype)?;
     let [m1, m2, _] = c.sizes.map(usize::from);
     // TS 26.202 prints M2 alone for where the third begins; document 01 has the sum

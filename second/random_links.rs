@@ -1,8 +1,8 @@
 //! What the comparison of the link draws by chance: sets, states, sub-flows and frames, right ones and ones with something wrong.
-use crate::compare_recordings::{change_a_bit, right_frame, some_room, wrong_frame};
 use crate::frame;
 use crate::link::{self, Combination, Link, PLACES};
 use crate::random::{Random, TYPES};
+use crate::random_frames::{fill, right_frame, some_octets};
 
 /// The types that a combination may have.
 pub const LINK_TYPES: [u64; 11] = [0, 1, 2, 3, 4, 5, 6, 7, 8, 9, 15];
@@ -23,10 +23,6 @@ pub fn combination(row: &Row) -> Combination {
     Combination { rfci: rfci as u8, ftype: ftype as u8, sizes: [size1, size2, size3].map(|size| size as u16) }
 }
 
-fn index(g: &mut Random, len: usize) -> usize {
-    g.below(len as u64) as usize
-}
-
 // ---- sets
 
 /// Three sizes of so many bits in all, often at an octet's border.
@@ -39,7 +35,7 @@ fn some_sizes(g: &mut Random, bits: u64) -> [u64; 3] {
         left -= *size;
     }
     sizes[2] = left;
-    sizes.rotate_left(index(g, 3));
+    sizes.rotate_left(g.index(3));
     sizes
 }
 
@@ -50,10 +46,10 @@ pub fn right_set(g: &mut Random) -> Vec<Row> {
     }
     let mut types = LINK_TYPES.to_vec();
     let mut rfcis: Vec<u64> = (0..64).collect();
-    let count = 1 + index(g, PLACES);
+    let count = 1 + g.index(PLACES);
     let rows = (0..count).map(|_| {
-        let ftype = types.swap_remove(index(g, types.len()));
-        let rfci = rfcis.swap_remove(index(g, rfcis.len()));
+        let ftype = types.swap_remove(g.index(types.len()));
+        let rfci = rfcis.swap_remove(g.index(rfcis.len()));
         let [size1, size2, size3] = some_sizes(g, frame::core_bits(ftype) as u64);
         [rfci, ftype, size1, size2, size3]
     });
@@ -66,8 +62,8 @@ pub fn wrong_set(g: &mut Random) -> Vec<u64> {
     while rows.len() < 2 {
         rows = right_set(g);
     }
-    let one = index(g, rows.len());
-    let other = (one + 1 + index(g, rows.len() - 1)) % rows.len();
+    let one = g.index(rows.len());
+    let other = (one + 1 + g.index(rows.len() - 1)) % rows.len();
     match g.below(8) {
         0 => rows.clear(),
         1 => {
@@ -102,14 +98,14 @@ fn wrong_row(g: &mut Random, row: &mut Row) {
                 row[2..].fill(0);
             }
         }
-        _ => row[index(g, 5)] = u64::MAX,
+        _ => row[g.index(5)] = u64::MAX,
     }
 }
 
 /// A sum that is one too high or too low, or right modulo a power of two only.
 fn wrong_sum(g: &mut Random, row: &mut Row) {
     let sizes = &mut row[2..];
-    sizes.rotate_left(index(g, 3));
+    sizes.rotate_left(g.index(3));
     match g.below(3) {
         0 if sizes[0] > 0 => sizes[0] -= 1,
         0 | 1 => sizes[0] += g.one_of(&[1, 1 << 8, 1 << 16, 1 << 32, 1 << 63]),
@@ -119,7 +115,7 @@ fn wrong_sum(g: &mut Random, row: &mut Row) {
             sizes[1] = sizes[1].wrapping_sub(more);
         }
     }
-    sizes.rotate_left(index(g, 3));
+    sizes.rotate_left(g.index(3));
 }
 
 // ---- states that no call gives
@@ -160,9 +156,9 @@ pub fn strange_link(g: &mut Random) -> Link {
 
 /// Makes one combination a wrong one, or like another.
 fn spoil(g: &mut Random, places: &mut [Combination; PLACES]) {
-    let from = places[index(g, PLACES)];
-    let c = &mut places[index(g, PLACES)];
-    let (one, other) = (index(g, 3), index(g, 3));
+    let from = places[g.index(PLACES)];
+    let c = &mut places[g.index(PLACES)];
+    let (one, other) = (g.index(3), g.index(3));
     match g.below(8) {
         0 => *c = from,
         1 => c.rfci = from.rfci,
@@ -186,7 +182,7 @@ fn spoil(g: &mut Random, places: &mut [Combination; PLACES]) {
 fn some_place(g: &mut Random, link: &Link) -> Combination {
     let reached = (link.set.count as usize).clamp(1, PLACES);
     let places = if g.one_in(10) { PLACES } else { reached };
-    link.set.places[index(g, places)]
+    link.set.places[g.index(places)]
 }
 
 /// A place that is sought, any one where there is none.
@@ -195,36 +191,25 @@ fn like(g: &mut Random, link: &Link, sought: impl Fn(&Combination) -> bool) -> C
     if found.is_empty() { some_place(g, link) } else { g.one_of(&found) }
 }
 
-pub fn some_rate(g: &mut Random) -> u64 {
-    let mode = g.below(9);
-    if g.one_in(4) { g.one_of(&[9, 10, 15, 16, 255, 256, 256 + mode, (1 << 32) + mode, u64::MAX]) } else { mode }
-}
-
 pub fn some_fqc(g: &mut Random) -> u64 {
-    let fqc = g.below(4);
-    if g.one_in(16) { g.one_of(&[4, 5, 255, 256 + fqc, (1 << 32) + fqc, u64::MAX]) } else { g.one_of(&[0, 0, 0, 2, 2, fqc]) }
+    let fqc = g.number("link_up FQC", 3);
+    if fqc == 1 || fqc == 3 { g.one_of(&[0, 2, fqc]) } else { fqc }
 }
 
 /// Mostly the RFCI of one of the set's combinations.
 pub fn some_rfci(g: &mut Random, link: &Link) -> u64 {
-    let rfci = some_place(g, link).rfci as u64;
-    match g.below(12) {
-        0 => g.below(64),
-        1 => g.one_of(&[0, 63, 64, 64 + rfci, 255, 256 + rfci, (1 << 32) + rfci, u64::MAX]),
-        _ => rfci,
+    if g.one_in(6) {
+        return g.number("link_up RFCI", 63);
     }
-}
-
-/// Octets of a buffer for a call that needs so many: mostly enough.
-fn mostly_room(g: &mut Random, need: usize) -> usize {
-    if g.one_in(4) { some_room(g, need) } else { need + g.one_of(&[0, 0, 1, 9]) }
+    let rfci = some_place(g, link).rfci as u64;
+    if g.one_in(12) { rfci + g.one_of(&[64, 256, 1 << 32]) } else { rfci }
 }
 
 /// Octets of a buffer for the frame that Up makes.
 pub fn some_frame_room(g: &mut Random, link: &Link, fqc: u64, rfci: u64) -> usize {
     let c = like(g, link, |c| c.rfci == rfci as u8);
     let need = if fqc == 1 { 1 } else { frame::octets(1, c.ftype as u64).unwrap_or(63) };
-    mostly_room(g, need)
+    g.room("link_up out", need)
 }
 
 /// Sub-flows for the combination with an RFCI: mostly in exactly their octets, with filling 0, and of a SID frame a mode up to 8.
@@ -250,61 +235,38 @@ pub fn some_subflows(g: &mut Random, link: &Link, rfci: u64) -> [Vec<u8>; 3] {
 
 /// Another length, a filling bit 1, or two sub-flows in each other's place.
 fn change_subflows(g: &mut Random, c: &Combination, subflows: &mut [Vec<u8>; 3]) {
-    let (one, other) = (index(g, 3), index(g, 3));
+    let (one, other) = (g.index(3), g.index(3));
     match g.below(6) {
-        0 => subflows[one].push(g.one_of(&[0, 0x80])),
-        1 => drop(subflows[one].pop()),
-        2 => subflows.swap(one, other),
-        3 => {
-            let n = index(g, 70);
-            subflows[one] = g.octets(n);
+        0..=2 => {
+            g.kind("sub-flow of another length");
+            let n = subflows[one].len();
+            let any = g.index(70);
+            subflows[one].resize(g.one_of(&[n + 1, n.saturating_sub(1), 0, any]), g.one_of(&[0, 0x80]));
         }
-        _ => {
-            let size = c.sizes[one] % 8;
-            if let (1..=7, Some(last)) = (size, subflows[one].last_mut()) {
-                *last |= g.one_of(&[1, 0x80 >> size]);
-            }
-        }
+        3 => subflows.swap(one, other),
+        _ if subflows[one].is_empty() => {}
+        _ => fill(g, (8 - c.sizes[one] as usize % 8) % 8, &mut subflows[one]),
     }
 }
 
 /// An IF1 frame: mostly a right one of a type in the set, often with the request that was forwarded last.
 pub fn some_frame(g: &mut Random, link: &Link) -> Vec<u8> {
-    match g.below(16) {
-        0..=2 => return wrong_frame(g, 1),
-        3 => {
-            let n = index(g, 70);
-            return g.octets(n);
-        }
-        _ => {}
-    }
     let in_set = some_place(g, link).ftype as u64;
     let ftype = if g.one_in(8) || !TYPES.contains(&in_set) { g.one_of(&TYPES) } else { in_set };
     let mut x = right_frame(g, 1, ftype);
     if ftype <= 9 && link.forwarded <= 8 && g.one_in(2) {
         x.request = link.forwarded as u64;
     }
-    let mut octets = frame::layout(1, &x);
-    match g.below(16) {
-        0 => change_a_bit(g, &mut octets),
-        1 => octets.truncate(index(g, octets.len())),
-        2 => {
-            let n = 1 + index(g, 3);
-            octets.extend(g.octets(n));
-        }
-        _ => {}
-    }
-    octets
+    some_octets(g, 1, &x)
 }
 
-/// Octets of the buffers for the sub-flows of a frame.
+/// Octets of the buffers for the sub-flows of a frame: mostly enough in all but one.
 pub fn some_rooms(g: &mut Random, link: &Link, octets: &[u8]) -> [usize; 3] {
     let ftype = octets.first().map_or(0, |first| first >> 4);
     let c = like(g, link, |c| c.ftype == ftype);
-    let mut rooms = c.sizes.map(|size| (size as usize + 7) / 8 + g.one_of(&[0, 0, 0, 1, 9]));
-    if g.one_in(4) {
-        let one = index(g, 3);
-        rooms[one] = some_room(g, (c.sizes[one] as usize + 7) / 8);
-    }
+    let needs = c.sizes.map(|size| (size as usize + 7) / 8);
+    let mut rooms = needs.map(|need| need + g.one_of(&[0, 0, 0, 1, 9]));
+    let one = g.index(3);
+    rooms[one] = g.room(["link_down s1", "link_down s2", "link_down s3"][one], needs[one]);
     rooms
 }

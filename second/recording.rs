@@ -1,6 +1,6 @@
 //! Whole recordings, written from the papers (document 01, "Recordings and conversion") in the plainest way: all frames are read into a
 //! vector, each is carried over, and the new ones are laid out. It shares no code with crates/ or benches/.
-use crate::frame::{self, Frame};
+use crate::frame::{self, Frame, ALL_FORMATS};
 
 pub const LIMIT: usize = 16_777_215;
 pub const HEADER: &[u8] = b"#!AMR-WB\n";
@@ -13,7 +13,7 @@ pub fn outside(number: u64) -> Refusal {
     Refusal(number, 0, 0)
 }
 
-/// `last` is the level's last format: 2 in level one, 3 in level two.
+/// `last` is the level's last format.
 pub fn format_in(last: u64, format: u64) -> Result<(), Refusal> {
     if format < 1 || format > last { Err(outside(11)) } else { Ok(()) }
 }
@@ -36,7 +36,7 @@ pub fn first_frame(format: u64, rest: &[u8]) -> Result<(Frame, usize), u64> {
     let ftype = if format == 3 { rest[0] >> 3 & 15 } else { rest[0] >> 4 } as u64;
     // A frame ends where its type says; read refuses a reserved type and too few octets itself.
     let n = frame::octets(format, ftype).unwrap_or(1).min(rest.len());
-    Ok((frame::read(format, &rest[..n], usize::MAX)?, n))
+    Ok((frame::read(ALL_FORMATS, format, &rest[..n], usize::MAX)?, n))
 }
 
 /// The frames of a recording, its format and length in range.
