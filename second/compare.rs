@@ -13,6 +13,7 @@ mod library;
 mod link;
 mod order;
 mod printed;
+mod printed_subflows;
 mod random;
 mod random_frames;
 mod random_links;
@@ -117,12 +118,12 @@ fn main() {
     same = same && comparison.compare_fixed();
     let total = comparison.tally.total();
     if !same {
-        println!("a library and the second program differ: seed {seed}, call {total}");
+        println!("a library and the second program differ: seed {seed}, call {total}; again by: compare {total} {seed}");
         std::process::exit(1);
     }
     if !comparison.show() {
         println!("some answer or kind of input never came (then the calls are too few), or an answer that its call cannot give");
         std::process::exit(1);
     }
-    println!("the libraries and the second program agree on {total} calls, with the length limits, a real encoder's bit order and TS 26.202's examples");
+    println!("the libraries and the second program agree on {total} calls, also at the length limits and on a real encoder's bit order");
 }

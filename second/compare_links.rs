@@ -2,9 +2,10 @@
 use crate::frame;
 use crate::library::{link_calls, LinkAnswer};
 use crate::link::{self, Combination, Down, Link, RfcSet, PLACES};
+use crate::printed_subflows::Row;
 use crate::random::{written, Random};
 use crate::random_frames::right_frame;
-use crate::random_links::{combination, right_set, strange_link, wrong_set, Row, EXAMPLES, LINK_TYPES};
+use crate::random_links::{combination, right_set, strange_link, wrong_set, EXAMPLES, LINK_TYPES};
 use crate::random_links::{some_fqc, some_frame, some_frame_room, some_rfci, some_rooms, some_subflows};
 use crate::tally::{Refusals, Tally};
 
@@ -78,9 +79,12 @@ impl Links {
         for row in numbers.chunks_exact(5) {
             g.note("link_assign RFCI", row[0], 63);
             g.note("link_assign type", row[1], 15);
-            g.note("link_assign size 1", row[2], frame::core_bits(row[1]) as u64);
-            g.note("link_assign size 2", row[3], frame::core_bits(row[1]) as u64);
-            g.note("link_assign size 3", row[4], frame::core_bits(row[1]) as u64);
+            if LINK_TYPES.contains(&row[1]) {
+                let bits = frame::core_bits(row[1]) as u64;
+                g.note("link_assign size 1", row[2], bits);
+                g.note("link_assign size 2", row[3], bits);
+                g.note("link_assign size 3", row[4], bits);
+            }
         }
         self.assign(tally, &numbers)
     }
@@ -189,7 +193,7 @@ impl Links {
             let sizes = border_sizes(frame::core_bits(ftype) as u64);
             sizes.into_iter().map(move |[size1, size2, size3]| [63, ftype, size1, size2, size3])
         });
-        EXAMPLES.into_iter().all(|rows| self.compare_set(tally, rows))
+        EXAMPLES.iter().all(|rows| self.compare_set(tally, rows))
             && borders.into_iter().all(|row| self.compare_set(tally, &[row]))
             && self.compare_cases(tally)
     }

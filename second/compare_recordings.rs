@@ -1,5 +1,5 @@
 //! Compares the calls for recordings with the second program.
-use crate::frame::{ALL_FORMATS, LEVEL_ONE_FORMATS};
+use crate::frame::ALL_FORMATS;
 use crate::library::one_calls;
 use crate::random::{written, Random};
 use crate::random_recordings::{filled, format_like, some_recording};
@@ -15,7 +15,7 @@ pub struct Answers<T> {
 impl<T> Answers<T> {
     /// From the answer of the second program with a level's last format.
     pub fn new(formats: &[u64], second: impl Fn(u64) -> T) -> Answers<T> {
-        Answers { all: second(ALL_FORMATS), one: formats.contains(&ALL_FORMATS).then(|| second(LEVEL_ONE_FORMATS)) }
+        Answers { all: second(ALL_FORMATS), one: formats.contains(&ALL_FORMATS).then(|| second(ALL_FORMATS - 1)) }
     }
 
     pub fn at(&self, level: usize) -> &T {

@@ -1,9 +1,8 @@
 //! One AMR-WB frame, written from the papers (document 01, TS 26.201, RFC 4867) in the plainest way: bits are vectors, the CRC is a
 //! long division. It shares no code with crates/.
 
-/// The last format that levels two and three have, and the last one of level one.
+/// The last format of levels two and three; level one has one fewer.
 pub const ALL_FORMATS: u64 = 3;
-pub const LEVEL_ONE_FORMATS: u64 = 2;
 
 pub struct Frame {
     pub ftype: u64,

@@ -1,21 +1,16 @@
 //! What the comparison of the link draws by chance: sets, states, sub-flows and frames, right ones and ones with something wrong.
 use crate::frame;
 use crate::link::{self, Combination, Link, PLACES};
+use crate::printed_subflows::{examples, Row};
 use crate::random::{Random, TYPES};
 use crate::random_frames::{fill, right_frame, some_octets};
+use std::sync::LazyLock;
 
 /// The types that a combination may have.
 pub const LINK_TYPES: [u64; 11] = [0, 1, 2, 3, 4, 5, 6, 7, 8, 9, 15];
 
-/// A combination as assign takes it: RFCI, type and three sizes.
-pub type Row = [u64; 5];
-
-/// TS 26.202, table 6-2, with nothing in a third sub-flow.
-pub const EXAMPLES: [&[Row]; 3] = [
-    &[[1, 9, 40, 0, 0], [2, 0, 54, 78, 0], [3, 1, 64, 113, 0], [4, 2, 72, 181, 0]],
-    &[[1, 9, 40, 0, 0], [2, 0, 54, 78, 0], [3, 1, 64, 113, 0], [4, 2, 72, 181, 0], [5, 4, 73, 244, 0]],
-    &[[1, 9, 40, 0, 0], [2, 0, 54, 78, 0], [3, 1, 64, 113, 0], [4, 2, 72, 181, 0], [5, 8, 74, 403, 0]],
-];
+/// TS 26.202, table 6-2.
+pub static EXAMPLES: LazyLock<Vec<Vec<Row>>> = LazyLock::new(examples);
 
 /// A right row as the state holds it.
 pub fn combination(row: &Row) -> Combination {
@@ -42,7 +37,7 @@ fn some_sizes(g: &mut Random, bits: u64) -> [u64; 3] {
 /// A right set of 1 to 11 combinations.
 pub fn right_set(g: &mut Random) -> Vec<Row> {
     if g.one_in(8) {
-        return g.one_of(&EXAMPLES).to_vec();
+        return EXAMPLES[g.index(EXAMPLES.len())].clone();
     }
     let mut types = LINK_TYPES.to_vec();
     let mut rfcis: Vec<u64> = (0..64).collect();
@@ -191,9 +186,9 @@ fn like(g: &mut Random, link: &Link, sought: impl Fn(&Combination) -> bool) -> C
     if found.is_empty() { some_place(g, link) } else { g.one_of(&found) }
 }
 
+/// Mostly one with which the sub-flows are read.
 pub fn some_fqc(g: &mut Random) -> u64 {
-    let fqc = g.number("link_up FQC", 3);
-    if fqc == 1 || fqc == 3 { g.one_of(&[0, 2, fqc]) } else { fqc }
+    if g.one_in(3) { g.number("link_up FQC", 3) } else { g.one_of(&[0, 2]) }
 }
 
 /// Mostly the RFCI of one of the set's combinations.
@@ -244,7 +239,6 @@ fn change_subflows(g: &mut Random, c: &Combination, subflows: &mut [Vec<u8>; 3])
             subflows[one].resize(g.one_of(&[n + 1, n.saturating_sub(1), 0, any]), g.one_of(&[0, 0x80]));
         }
         3 => subflows.swap(one, other),
-        _ if subflows[one].is_empty() => {}
         _ => fill(g, (8 - c.sizes[one] as usize % 8) % 8, &mut subflows[one]),
     }
 }
