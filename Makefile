@@ -1,4 +1,4 @@
-.PHONY: demo report adapter test fuzz bench
+.PHONY: demo report adapter test fuzz bench resources
 
 # converts a sample recording from storage format to IF1, to IF2 and back
 demo:
@@ -29,3 +29,8 @@ bench:
 	@tests/build bench bench_three
 	@target/tools/bench
 	@target/tools/bench_three
+
+# the code size of each library and the deepest stack of each call: Markdown tables
+resources:
+	@tests/build stack stack_bound
+	@benches/resources
