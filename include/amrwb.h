@@ -1,6 +1,7 @@
 /* The AMR-WB voice adapter's C interface: whole recordings, one frame, the reception class, the codec's bit order, a viewer, the report and
- * the link to a radio network. Level one's library has the three calls for recordings, with formats 1 and 2; level two's has these and every
- * other call but the link's, with formats 1 to 3; level three's has the link's, and no name of the others yet, so that a host may link both.
+ * the link to a radio network. Three static libraries have it, of which a host links one: level one has the calls for recordings and for one
+ * frame, with formats 1 and 2; level two has these with formats 1 to 3, and every other call but the link's; level three has all. They need
+ * no C library but for memcpy and memset.
  *
  * Octets are lent as a pointer and a length; a length of 0 may come with any pointer that is not null. The lent buffers of one call
  * must not overlap. No call keeps a pointer, uses the heap or fails in another way than by its answer.
@@ -8,7 +9,8 @@
  * A format is 1 IF1, 2 IF2 or 3 stored (format 3 is refusal 11 in level one). A recording is its frames joined, none or more, at most
  * 16,777,215 octets; a stored one begins with the nine octets "#!AMR-WB\n", which count too.
  *
- * Every answer begins with refusal, frame and octet. refusal is 0, or the number of why the call was refused:
+ * Numbers are uint64_t, and none is cut off on the way: 257 is never taken for 1. Every answer begins with refusal, frame and octet.
+ * refusal is 0, or the number of why the call was refused:
  *   1 no octets              2 reserved frame type (10 to 13)    3 fewer octets than the type's    4 octets behind a single frame
  *   5 spare or filling bit 1 6 a mode or field out of range      7 CRC                             8 header of a stored recording
  *   9 recording too long, read or about to be written           10 buffer shorter than needed
@@ -73,61 +75,70 @@ typedef struct {
     uint64_t speech, comfort, lost, empty; /* frames of type 0 to 8, 9, 14 and 15 */
 } amrwb_counts;
 
-/* Levels one and two: recordings. */
+/* Level one: recordings. */
 
-/* Reads the recording rec of a format to its end. octets is 0. */
+/* Reads the recording rec of a format to its end: frames read, and octets 0. 11 for the format; 9; 8 in storage format; the first refused
+ * frame by 2, 3, 5, 6, 7. */
 amrwb_answer amrwb_validate(uint64_t format, const uint8_t *rec, size_t len);
 
 /* Reads the whole recording rec, then writes the same frames in another format, or in the same one, to out. Towards IF1 from IF2 or stored
  * a frame gets its type as indication (type 9: 0) and this request, types 14 and 15 neither, and the CRC is computed; IF1 to IF1 keeps
- * its own. request is 0 to 8 (else 11), also where it is not used. */
+ * its own. frames read and octets written. 11 for a format or a request above 8, also where the request is not used; 9 for what is read; 8;
+ * the first refused frame by 2, 3, 5, 6, 7; 9 for what would be written; 10. */
 amrwb_answer amrwb_convert(uint64_t from, uint64_t to, uint64_t request, const uint8_t *rec, size_t len, uint8_t *out,
                            size_t out_len);
 
-/* As amrwb_convert, but writes nothing: octets is what the conversion needs of out. Never 10. */
+/* As amrwb_convert, but writes nothing: frames read, and the octets that the conversion needs of out. Never 10. */
 amrwb_answer amrwb_convert_length(uint64_t from, uint64_t to, uint64_t request, const uint8_t *rec, size_t len);
 
-/* Level two: one frame, and the reception class. */
+/* Level one: one frame. */
 
-/* Reads one frame of a format that takes all of octets, and writes its packed core to core. */
+/* Reads one frame of a format, which takes all of octets, and writes its packed core to core: the frame's fields, and core_octets written.
+ * 11 for the format; 1 to 7; 10. */
 amrwb_frame amrwb_read_frame(uint64_t format, const uint8_t *octets, size_t len, uint8_t *core, size_t core_len);
 
-/* Build a frame to out from its fields and its packed core, which must have exactly the type's octets (else 11; not asked for types 10
- * to 13). In IF1 the CRC is computed, type 9 takes indication 0, and types 14 and 15 take indication and request 0 (else 6). */
+/* Build a frame to out from its fields and its packed core: octets written, and frames 0. In IF1 the CRC is computed. 11 for a type above 15,
+ * a quality above 1, or a core that has not exactly the type's octets (not asked for types 10 to 13); 2; 5 for a filling bit 1 of the core;
+ * 6 for an indication or a request above 8, for type 9 with an indication, for types 14 and 15 with either, and for a SID frame's mode above
+ * 8; 10. */
 amrwb_answer amrwb_build_if1(uint64_t type, uint64_t quality, uint64_t indication, uint64_t request, const uint8_t *core,
                              size_t core_len, uint8_t *out, size_t out_len);
 amrwb_answer amrwb_build_if2(uint64_t type, uint64_t quality, const uint8_t *core, size_t core_len, uint8_t *out, size_t out_len);
+
+/* Level two: a frame in storage format, built as in amrwb_build_if2. */
 amrwb_answer amrwb_build_stored(uint64_t type, uint64_t quality, const uint8_t *core, size_t core_len, uint8_t *out, size_t out_len);
 
-/* The reception class of a frame; sti (0 or 1) counts for type 9 alone. 11 for a number out of its range, then 2. */
+/* Level two: the reception class of a frame; sti counts for type 9 alone. 11 for a type above 15, a quality above 1 or an sti above 1; 2. */
 amrwb_class_answer amrwb_class(uint64_t type, uint64_t quality, uint64_t sti);
 
 /* Level two: the codec's bit order. A row has one octet of 0 or 1 for each bit s(1) to s(K) of the codec, in its order; K is 132, 177, 253,
  * 285, 317, 365, 397, 461, 477 for mode 0 to 8. There are tables for modes 0 to 4: modes 5 to 8 are judged like these, and then 12. */
 
-/* Writes the packed core of a row to core. 11 for a mode above 8, a row with another length than K or a value above 1; then 12, 10. */
+/* Writes the packed core of a row to core: octets written. 11 for a mode above 8, a row with another length than K or a value above 1; 12;
+ * 10. */
 amrwb_answer amrwb_order_to_core(uint64_t mode, const uint8_t *row, size_t row_len, uint8_t *core, size_t core_len);
 
-/* Writes the row of a packed core to row. 11 for a mode above 8 or a core that does not have exactly the mode's octets; then 5 for a
- * filling bit 1, 12, 10. */
+/* Writes the row of a packed core to row: octets written, one for each bit. 11 for a mode above 8 or a core that has not exactly the mode's
+ * octets; 5 for a filling bit 1; 12; 10. */
 amrwb_answer amrwb_order_to_row(uint64_t mode, const uint8_t *core, size_t core_len, uint8_t *row, size_t row_len);
 
 /* Level two: a viewer, which hands out the frames of a recording in turn. The host keeps format, offset and number between the calls, and
  * lends the same recording to each. */
 
-/* Opens the recording rec of a format: offset is its first frame's, and number is 0. 11 for the format, 9, 8; no frame is read. */
+/* Opens the recording rec of a format: offset is its first frame's, number and end are 0, and no frame is read. 11 for the format; 9; 8. */
 amrwb_view amrwb_view_open(uint64_t format, const uint8_t *rec, size_t len);
 
 /* Reads the frame at offset, with the given number, and writes its packed core to core; offset and number of the answer are the next
  * frame's. At the end of the recording (offset is len) end is 1. There, and at a refusal, offset and number stay as given. 11 for the
- * format, an offset above len or a number above offset; then the frame by 2 to 7, with number and offset as its place; then 10. Length
+ * format, an offset above len or a number above offset; the frame by 2, 3, 5, 6, 7, with number and offset as its place; 10. Length
  * and header of the recording are not judged again. */
 amrwb_view amrwb_view_next(uint64_t format, uint64_t offset, uint64_t number, const uint8_t *rec, size_t len, uint8_t *core,
                            size_t core_len);
 
 /* Level two: the report. */
 
-/* Reads the stored recording rec, here of at most 65,536 octets (else 9), to its end, and counts its frames by class. */
+/* Reads the stored recording rec to its end, and counts its frames by class. 9 for more than 65,536 octets here; 8; the first refused frame
+ * by 2, 3, 5, 6. */
 amrwb_counts amrwb_report(const uint8_t *rec, size_t len);
 
 /* Level three: the link to a radio network. Its state is the host's to keep: each call takes it by value and answers the next one, which is
