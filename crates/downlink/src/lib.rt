@@ -4,7 +4,7 @@ use frame::FrameHeader;
 use frame::Reading;
 use frame::Refusal;
 use frame::table::header_bits;
-use frame_reader::read_single;
+use frame_reader::read_if1;
 use link_state::Found;
 use link_state::lookup_type;
 use links::Combination;
@@ -193,7 +193,7 @@ pub fn split_frame(
     if link.set.count == 0 {
         return Downlinked::Refused(Refusal::NoSet);
     }
-    match read_single(Format::If1, frame) {
+    match read_if1(frame) {
         Reading::Frame(h, _) => split_read(link, h, frame, s1, s2, s3),
         Reading::Refused(e) => Downlinked::Refused(e),
     }

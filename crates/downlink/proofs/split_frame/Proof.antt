@@ -17,13 +17,13 @@ read : (c : tie.After-known-told) → let a = c .before .before .before .before 
     ok (frameWith (h .0 .0) (coreIn if1 (h .0 .0 .«frame_type») (bits (a .frame .now))), h .0 .1 .0) ≡ readWith true if1 (a .frame .now)
 read c =
     let a = c .before .before .before .before .before .before .before .before .before .before .args in
-    ap (readingOf (λ t. coreIn if1 t (bits (a .frame .now)))) (sym (c .before .h .given .1)) ∙ c .before .before .before .read-single .ensures
+    ap (readingOf (λ t. coreIn if1 t (bits (a .frame .now)))) (sym (c .before .h .given .1)) ∙ c .before .before .before .read-if1 .ensures
 
 returns : tie.Need-returns
 returns c = let a = c .before .before .before .before .before .before .args in refused-into _ (a .s1 .now) (a .s2 .now) (a .s3 .now) _ (no-set (a .link) (a .frame .now) _ _ _ (c .if1 .taken))
 
-read-single-requires : tie.Need-read-single-requires
-read-single-requires c κs = search needs
+read-if1-requires : tie.Need-read-if1-requires
+read-if1-requires c κs = search needs
 
 enum-known-h : tie.Need-enum-known-h
 enum-known-h c = search needs
@@ -51,7 +51,7 @@ returns-2 c =
 returns-3 : tie.Need-returns-3
 returns-3 c =
     let a = c .before .before .before .before .before .before .before .before .before .before .args in
-    let r = ap (readingOf (λ t. coreIn if1 t (bits (a .frame .now)))) (sym (c .before .e .given .1)) ∙ c .before .before .before .read-single .ensures in
+    let r = ap (readingOf (λ t. coreIn if1 t (bits (a .frame .now)))) (sym (c .before .e .given .1)) ∙ c .before .before .before .read-if1 .ensures in
     refused-into _ (a .s1 .now) (a .s2 .now) (a .s3 .now) _ (frame-refused (a .link) (a .frame .now) _ _ _ (c .before .before .before .before .if1 .left) _ r)
 
 pub split-frame-spec : {M : Type 1} → statement M
@@ -59,7 +59,7 @@ split-frame-spec =
     tie.close
     (tie.spec
     returns
-    read-single-requires
+    read-if1-requires
     enum-known-h
     split-read-requires
     enum-known-e
