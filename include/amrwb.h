@@ -180,7 +180,8 @@ typedef struct {
 amrwb_link amrwb_link_fresh(void);
 
 /* Stores the combinations that rows writes, five numbers for each: RFCI, type and three sizes; 1 to 11 of them, with different RFCIs and
- * different types. 11 for anything else, then 15 where there is a set. */
+ * different types. rows_len counts the numbers. 11 for anything else, also for a length that is no multiple of five; 15 where there is a
+ * set. */
 amrwb_link_answer amrwb_link_assign(amrwb_link link, const uint64_t *rows, size_t rows_len);
 
 /* Back to no set; both requests stay. 14 where there is none. */
