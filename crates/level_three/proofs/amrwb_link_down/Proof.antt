@@ -5,7 +5,7 @@ use lib.ListN.{length}
 use Rattle.links.specs.Calls.{downCall}
 use Rattle.downlink.specs.Answers.{nextLink}
 use Rattle.downlink.proofs.DownLaws.{next-after}
-use Rattle.level_three.specs.Flat.{downNumbers}
+use Rattle.link_answers.specs.Flat.{downNumbers}
 use Rattle.level_three.proofs.amrwb_link_down.Statement.{statement}
 use Rattle.level_three.proofs.amrwb_link_down.Tie as tie
 

@@ -5,8 +5,8 @@ use Rattle.links.specs.declared.Link.{Link}
 use Rattle.downlink.specs.declared.Subflows.{Subflows}
 use Rattle.downlink.specs.declared.Downlinked.the-variants.{Split}
 use Rattle.downlink.specs.Answers.{forwardOf, downOf}
-use Rattle.level_three.specs.Flat.{isForwarded, requestForwarded, downNumbers}
-use Rattle.level_three.specs.declared.DownNumbers.{DownNumbers}
+use Rattle.link_answers.specs.Flat.{isForwarded, requestForwarded, downNumbers}
+use Rattle.link_answers.specs.declared.DownNumbers.{DownNumbers}
 
 abbrev pub splitNumbers : Subflows → (forwarded request : ℕ) → Link → DownNumbers
 splitNumbers s f r l = record {

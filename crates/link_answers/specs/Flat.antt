@@ -8,8 +8,8 @@ use Rattle.links.specs.declared.Link.{Link}
 use Rattle.links.specs.Calls.{Forward, nothing, request, Down, downAfter}
 use Rattle.links.specs.History.{Reply, refusal, accepted, frame, subflows}
 use Rattle.downlink.specs.Answers.{Numbers, shown, flowAfter}
-use Rattle.level_three.specs.declared.LinkAnswer.{LinkAnswer}
-use Rattle.level_three.specs.declared.DownNumbers.{DownNumbers}
+use Rattle.link_answers.specs.declared.LinkAnswer.{LinkAnswer}
+use Rattle.link_answers.specs.declared.DownNumbers.{DownNumbers}
 
 abbrev pub refusalNumber : Reply → ℕ
 refusalNumber (refusal n) = n

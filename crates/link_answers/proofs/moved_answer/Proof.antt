@@ -1,9 +1,9 @@
--- `level_three::moved_answer` meets its contract. Assumes nothing.
+-- `moved_answer` meets its contract. Assumes nothing.
 use borrow.Author.Needs.{needs}
 use mathlib.Core.Path.{ap}
-use Rattle.level_three.specs.declared.LinkAnswer.{LinkAnswer}
-use Rattle.level_three.proofs.moved_answer.Statement.{statement}
-use Rattle.level_three.proofs.moved_answer.Tie as tie
+use Rattle.link_answers.specs.declared.LinkAnswer.{LinkAnswer}
+use Rattle.link_answers.proofs.moved_answer.Statement.{statement}
+use Rattle.link_answers.proofs.moved_answer.Tie as tie
 
 verdict-number-requires : tie.Need-verdict-number-requires
 verdict-number-requires c κs = search needs

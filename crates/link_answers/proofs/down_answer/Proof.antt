@@ -1,12 +1,12 @@
--- `level_three::down_answer` meets its contract, case by case. Assumes nothing.
+-- `down_answer` meets its contract, case by case. Assumes nothing.
 use borrow.Author.Needs.{needs}
 use mathlib.Core.Path.{sym, ap, _∙_}
 use Rattle.definitions.specs.Outcome.{refused}
 use Rattle.downlink.specs.Answers.{downOf}
-use Rattle.level_three.specs.Flat.{downNumbers}
-use Rattle.level_three.proofs.FlatLaws.{split-numbers}
-use Rattle.level_three.proofs.down_answer.Statement.{statement}
-use Rattle.level_three.proofs.down_answer.Tie as tie
+use Rattle.link_answers.specs.Flat.{downNumbers}
+use Rattle.link_answers.proofs.FlatLaws.{split-numbers}
+use Rattle.link_answers.proofs.down_answer.Statement.{statement}
+use Rattle.link_answers.proofs.down_answer.Tie as tie
 
 enum-known-d : tie.Need-enum-known-d
 enum-known-d c = search needs
