@@ -6,7 +6,7 @@ use frame::Refusal;
 use frame::format_numbered;
 use frame::table::octets_by_bits;
 use frame_carrier::carry_frame;
-use frame_reader::type_in;
+use frame_tests::type_in;
 use recording_reader::Counts;
 use recording_reader::FILE_HEADER;
 use recording_reader::LIMIT;

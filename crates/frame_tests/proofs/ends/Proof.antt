@@ -1,10 +1,10 @@
--- `frame_reader::ends` meets its contract, by the flag. Assumes nothing.
+-- `frame_tests::ends` meets its contract, by the flag. Assumes nothing.
 use borrow.Author.Needs.{needs}
 use mathlib.Core.Path.{sym, ap}
 use mathlib.Core.Bool.{not, _||_}
 use lib.Dec.{leb}
-use Rattle.frame_reader.proofs.ends.Statement.{statement}
-use Rattle.frame_reader.proofs.ends.Tie as tie
+use Rattle.frame_tests.proofs.ends.Statement.{statement}
+use Rattle.frame_tests.proofs.ends.Tie as tie
 
 returns : tie.Need-returns
 returns c = sym (ap (λ b. not b || leb (c .before .args .len) (c .before .args .n)) (c .if1 .taken))

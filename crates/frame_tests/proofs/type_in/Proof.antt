@@ -1,13 +1,13 @@
--- `frame_reader::quality_in` meets its contract: the quality is a bit of the first octet. Assumes nothing.
+-- `frame_tests::type_in` meets its contract: the type is a field of the first octet. Assumes nothing.
 use borrow.Author.Needs.{needs}
 use mathlib.Core.Path.{ap, _∙_}
-use Prim.Native.Nat.{ℕ, _+_, _-_}
+use Prim.Native.Nat.{ℕ, _-_}
 use native.Mathlib.Omega.{arith}
 use lib.ListN.{drop}
 use Rattle.bits.specs.Bits.{bits, num}
-use Rattle.frame_reader.proofs.ReaderLaws.{masked-field}
-use Rattle.frame_reader.proofs.quality_in.Statement.{statement}
-use Rattle.frame_reader.proofs.quality_in.Tie as tie
+use Rattle.frame_tests.proofs.TestLaws.{masked-field}
+use Rattle.frame_tests.proofs.type_in.Statement.{statement}
+use Rattle.frame_tests.proofs.type_in.Tie as tie
 
 shared-slice-read-result : tie.Need-shared-slice-read-result
 shared-slice-read-result c = search needs
@@ -27,11 +27,11 @@ shr-result c = search needs
 returns : tie.Need-returns
 returns c =
     let a = c .before .before .before .args in
-    masked-field (a .s .now) (c .before .before .shared-slice-known .given 0 .fits) (c .before .before .before .pre) (c .spare-before .result + 4) 1 (3 - c .spare-before .result) (omega (arith, c .spare-before .ensures .1))
-    ∙ ap (λ (k : ℕ). num 1 (drop (k + 4) (bits (a .s .now)))) (c .spare-before .ensures .0)
+    masked-field (a .s .now) (c .before .before .shared-slice-known .given 0 .fits) (c .before .before .before .pre) (c .spare-before .result) 4 (4 - c .spare-before .result) (omega (arith, c .spare-before .ensures .1))
+    ∙ ap (λ (k : ℕ). num 4 (drop (k) (bits (a .s .now)))) (c .spare-before .ensures .0)
 
-pub quality-in-spec : {M : Type 1} → statement M
-quality-in-spec =
+pub type-in-spec : {M : Type 1} → statement M
+type-in-spec =
     tie.close
     (tie.spec
     shared-slice-read-result

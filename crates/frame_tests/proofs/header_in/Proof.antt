@@ -1,4 +1,4 @@
--- `frame_reader::header_in` meets its contract, field by field. Assumes nothing.
+-- `frame_tests::header_in` meets its contract, field by field. Assumes nothing.
 use borrow.Author.Needs.{needs}
 use mathlib.Core.Path.{ap, _∙_}
 use native.Mathlib.Omega.{arith}
@@ -9,8 +9,8 @@ use Rattle.definitions.specs.Frames.{carriesModes, coreIn, frameIn}
 use Rattle.frame.specs.Answers.{formatOf}
 use Rattle.definitions.proofs.Tables.{sized}
 use Rattle.definitions.proofs.Frames.{frame-path}
-use Rattle.frame_reader.proofs.header_in.Statement.{statement}
-use Rattle.frame_reader.proofs.header_in.Tie as tie
+use Rattle.frame_tests.proofs.header_in.Statement.{statement}
+use Rattle.frame_tests.proofs.header_in.Tie as tie
 
 quality-in-requires : tie.Need-quality-in-requires
 quality-in-requires c κs =

@@ -1,11 +1,11 @@
--- `frame_reader::spare_clear` meets its contract: the first octet's spare bits, and the filling. Assumes nothing.
+-- `frame_tests::spare_clear` meets its contract: the first octet's spare bits, and the filling. Assumes nothing.
 use native.Mathlib.Omega.{arith}
 use Rattle.bits.specs.Bits.{bits}
 use Rattle.frame.specs.Answers.{formatOf}
 use Rattle.definitions.proofs.Tables.{sized}
-use Rattle.frame_reader.proofs.ReaderLaws.{spare-first, spare-fill}
-use Rattle.frame_reader.proofs.spare_clear.Statement.{statement}
-use Rattle.frame_reader.proofs.spare_clear.Tie as tie
+use Rattle.frame_tests.proofs.TestLaws.{spare-first, spare-fill}
+use Rattle.frame_tests.proofs.spare_clear.Statement.{statement}
+use Rattle.frame_tests.proofs.spare_clear.Tie as tie
 
 first-clear-requires : tie.Need-first-clear-requires
 first-clear-requires c κs =

@@ -1,4 +1,4 @@
--- `frame_reader::mode_in` meets its contract: a frame that carries modes has four octets or more. Assumes nothing.
+-- `frame_tests::mode_in` meets its contract: a frame that carries modes has four octets or more. Assumes nothing.
 use borrow.Author.Needs.{needs}
 use mathlib.Core.Path.{sym, ap, _∙_}
 use mathlib.Core.Bool.{cond}
@@ -7,8 +7,8 @@ use lib.ListN.{drop}
 use Rattle.bits.specs.Bits.{num, bits}
 use Rattle.frame.specs.Answers.{formatOf}
 use Rattle.frame.proofs.TableLaws.{modes-carried}
-use Rattle.frame_reader.proofs.mode_in.Statement.{statement}
-use Rattle.frame_reader.proofs.mode_in.Tie as tie
+use Rattle.frame_tests.proofs.mode_in.Statement.{statement}
+use Rattle.frame_tests.proofs.mode_in.Tie as tie
 
 carries-modes-requires : tie.Need-carries-modes-requires
 carries-modes-requires c κs = search needs

@@ -1,4 +1,4 @@
--- `frame_reader::sid_fine` meets its contract. Assumes nothing.
+-- `frame_tests::sid_fine` meets its contract. Assumes nothing.
 use mathlib.Core.Path.{sym, ap, _∙_, subst}
 use Prim.Native.Nat.{_≤_}
 use borrow.Author.Tests.{leb-true}
@@ -6,8 +6,8 @@ use lib.ListN.{length, drop}
 use Rattle.bits.specs.Bits.{num, bits}
 use Rattle.definitions.specs.Frames.{octets, coreIn}
 use Rattle.frame.specs.Answers.{formatOf}
-use Rattle.frame_reader.proofs.sid_fine.Statement.{statement}
-use Rattle.frame_reader.proofs.sid_fine.Tie as tie
+use Rattle.frame_tests.proofs.sid_fine.Statement.{statement}
+use Rattle.frame_tests.proofs.sid_fine.Tie as tie
 
 returns : tie.Need-returns
 returns c =

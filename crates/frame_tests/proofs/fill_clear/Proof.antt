@@ -1,12 +1,12 @@
--- `frame_reader::fill_clear` meets its contract: the filling is the last bits of the frame's last octet. Assumes nothing.
+-- `frame_tests::fill_clear` meets its contract: the filling is the last bits of the frame's last octet. Assumes nothing.
 use borrow.Author.Needs.{needs}
 use native.Mathlib.Omega.{arith}
 use Rattle.definitions.proofs.Tables.{sized}
 use Rattle.frame.specs.Answers.{formatOf}
 use Rattle.frame.proofs.TableLaws.{room}
-use Rattle.frame_reader.proofs.ReaderLaws.{fill-is}
-use Rattle.frame_reader.proofs.fill_clear.Statement.{statement}
-use Rattle.frame_reader.proofs.fill_clear.Tie as tie
+use Rattle.frame_tests.proofs.TestLaws.{fill-is}
+use Rattle.frame_tests.proofs.fill_clear.Statement.{statement}
+use Rattle.frame_tests.proofs.fill_clear.Tie as tie
 
 fill-bits-requires : tie.Need-fill-bits-requires
 fill-bits-requires c κs = search needs

@@ -1,4 +1,4 @@
--- `frame_reader::first_clear` meets its contract: each format has its mask. Assumes nothing.
+-- `frame_tests::first_clear` meets its contract: each format has its mask. Assumes nothing.
 use borrow.Author.Needs.{needs}
 use mathlib.Core.Path.{sym, ap, _∙_}
 use mathlib.Core.Bool.{_&&_}
@@ -7,9 +7,9 @@ use lib.ListN.{drop}
 use Rattle.bits.specs.Bits.{bits, clear}
 use Rattle.definitions.specs.Frames.{spareBefore, spareAfter}
 use Rattle.frame.specs.Answers.{formatOf}
-use Rattle.frame_reader.proofs.ReaderLaws.{first-if1, first-if2, first-storage}
-use Rattle.frame_reader.proofs.first_clear.Statement.{statement}
-use Rattle.frame_reader.proofs.first_clear.Tie as tie
+use Rattle.frame_tests.proofs.TestLaws.{first-if1, first-if2, first-storage}
+use Rattle.frame_tests.proofs.first_clear.Statement.{statement}
+use Rattle.frame_tests.proofs.first_clear.Tie as tie
 
 enum-told : tie.Need-enum-told
 enum-told c = search needs

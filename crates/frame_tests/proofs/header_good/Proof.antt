@@ -1,12 +1,12 @@
--- `frame_reader::header_good` meets its contract: the SID mode is read where the type is 9, and does not count elsewhere. Assumes nothing.
+-- `frame_tests::header_good` meets its contract: the SID mode is read where the type is 9, and does not count elsewhere. Assumes nothing.
 use borrow.Author.Needs.{needs}
 use mathlib.Core.Path.{sym, ap, _∙_}
 use lib.ListN.{drop}
 use Rattle.bits.specs.Bits.{num, bits}
 use Rattle.definitions.specs.Frames.{coreIn}
 use Rattle.frame.specs.Answers.{formatOf}
-use Rattle.frame_reader.proofs.header_good.Statement.{statement}
-use Rattle.frame_reader.proofs.header_good.Tie as tie
+use Rattle.frame_tests.proofs.header_good.Statement.{statement}
+use Rattle.frame_tests.proofs.header_good.Tie as tie
 
 cast-t : tie.Need-cast-t
 cast-t c = search needs

@@ -1,4 +1,4 @@
--- `frame_reader::crc_good` meets its contract: Class A is the core's beginning, behind three octets. Assumes nothing.
+-- `frame_tests::crc_good` meets its contract: Class A is the core's beginning, behind three octets. Assumes nothing.
 use borrow.Author.Needs.{needs}
 use mathlib.Core.Path.{sym, _∙_}
 use native.Mathlib.Omega.{arith}
@@ -8,9 +8,9 @@ use Prim.Native.Nat.{_-_}
 use Rattle.frame.specs.Answers.{formatOf}
 use Rattle.definitions.proofs.Tables.{known-below, class-a-within}
 use Rattle.frame.proofs.TableLaws.{modes-carried, room}
-use Rattle.frame_reader.proofs.ReaderLaws.{crc-is, no-crc}
-use Rattle.frame_reader.proofs.crc_good.Statement.{statement}
-use Rattle.frame_reader.proofs.crc_good.Tie as tie
+use Rattle.frame_tests.proofs.TestLaws.{crc-is, no-crc}
+use Rattle.frame_tests.proofs.crc_good.Statement.{statement}
+use Rattle.frame_tests.proofs.crc_good.Tie as tie
 
 carries-modes-requires : tie.Need-carries-modes-requires
 carries-modes-requires c κs = search needs

@@ -1,4 +1,4 @@
--- `frame_reader::sid_mode` meets its contract: the core of a SID frame has 40 bits. Assumes nothing.
+-- `frame_tests::sid_mode` meets its contract: the core of a SID frame has 40 bits. Assumes nothing.
 use borrow.Author.Needs.{needs}
 use mathlib.Core.Path.{ap, _∙_}
 use Prim.Native.Nat.{_+_}
@@ -7,9 +7,9 @@ use lib.ListN.{drop}
 use Rattle.bits.specs.Bits.{num, bits}
 use Rattle.frame.specs.Answers.{formatOf}
 use Rattle.frame.proofs.TableLaws.{room, sid-core, sid-known}
-use Rattle.frame_reader.proofs.ReaderLaws.{sid-is}
-use Rattle.frame_reader.proofs.sid_mode.Statement.{statement}
-use Rattle.frame_reader.proofs.sid_mode.Tie as tie
+use Rattle.frame_tests.proofs.TestLaws.{sid-is}
+use Rattle.frame_tests.proofs.sid_mode.Statement.{statement}
+use Rattle.frame_tests.proofs.sid_mode.Tie as tie
 
 header-bits-requires : tie.Need-header-bits-requires
 header-bits-requires c κs = search needs
