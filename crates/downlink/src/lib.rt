@@ -1,12 +1,12 @@
 // Down: an IF1 frame split into three sub-flows. `down` is an entry; `split_frame` and `forwarded_after` are `pub` for level three.
+use combinations::Found;
+use combinations::lookup_type;
 use frame::Format;
 use frame::FrameHeader;
 use frame::Reading;
 use frame::Refusal;
 use frame::table::header_bits;
 use frame_reader::read_if1;
-use link_state::Found;
-use link_state::lookup_type;
 use links::Combination;
 use links::Link;
 ghost use mathlib.Core.Path.{_≡_};

@@ -2,22 +2,14 @@
 use mathlib.Core.List.{List}
 use Prim.Native.Nat.{ℕ, _+_}
 use lib.ListN.{getD}
-use Rattle.definitions.specs.Outcome.{Outcome, refused, ok}
 use Rattle.frame.specs.Answers.{numberOf}
 use Rattle.links.specs.declared.Combination.{Combination}
 use Rattle.links.specs.declared.Link.{Link}
 use Rattle.links.specs.Sets as set
 use Rattle.links.specs.History.{Reply, refusal, accepted}
-use Rattle.link_state.specs.declared.Found.{Found}
-use Rattle.link_state.specs.declared.Found.the-variants.{Is, Missing}
 use Rattle.link_state.specs.declared.Verdict.{Verdict}
 use Rattle.link_state.specs.declared.Verdict.the-variants.{Accepted, Refused}
 use Rattle.link_state.specs.declared.Moved.{Moved}
-
--- the combination, or refusal n
-abbrev pub foundOf : (n : ℕ) → Found → Outcome Combination
-foundOf n (Is c) = ok c
-foundOf n Missing = refused n
 
 abbrev pub verdictOf : Verdict → Reply
 verdictOf Accepted = accepted

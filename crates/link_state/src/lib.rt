@@ -1,5 +1,8 @@
-// The link's state: made, given a set, released and given a request, and a combination looked up in its set. `fresh`, `assign`, `release`
-// and `rate_command` are entries; `lookup_rfci` and `lookup_type`, with `Found`, are `pub` for the crates of Up and Down.
+// The link's state: made, given a set, released and given a request. `fresh`, `assign`, `release` and `rate_command` are entries.
+use combinations::Found;
+use combinations::HIGHEST_RFCI;
+use combinations::NO_DATA;
+use combinations::combination_good;
 use frame::HIGHEST_MODE;
 use frame::Refusal;
 use frame::table::core_bits;
@@ -9,32 +12,20 @@ use links::NO_REQUEST;
 use links::PLACES;
 use links::RfcSet;
 ghost use mathlib.Core.Path.{_≡_};
-ghost use mathlib.Core.Bool.{true, _&&_};
-ghost use mathlib.Core.List.{List, []};
+ghost use mathlib.Core.Bool.{true};
+ghost use mathlib.Core.List.{[]};
 ghost use Prim.Native.Nat.{_+_, _*_, _≤_};
 ghost use lib.ListN.{length, take, drop};
 ghost use Rattle.definitions.specs.Outcome.{ok, unless};
 ghost use Rattle.frame.specs.Answers.{numberOf};
-ghost use Rattle.links.specs.declared.Combination.{Combination};
-ghost use Rattle.links.specs.Sets.{combination, linkType, combinationGood, apart, allGood, combinations, rfcSet, by-rfci, by-type, has, lookup};
+ghost use Rattle.links.specs.Sets.{combination, combinationGood, apart, allGood, rfcSet};
 ghost use Rattle.links.specs.Calls.{linkBy, freshLink, inFives};
 ghost use Rattle.links.specs.History as call;
-ghost use Rattle.link_state.specs.Answers.{foundOf, movedOf, fiveAt};
-
-// The highest RFCI, and the types that a combination may have: 0 to 9, and 15.
-pub const HIGHEST_RFCI: u64 = 63;
-
-const SID: u8 = frame::SID as u8;
-
-pub const NO_DATA: u64 = 15;
+ghost use Rattle.combinations.specs.Answers.{foundOf};
+ghost use Rattle.link_state.specs.Answers.{movedOf, fiveAt};
 
 // How many numbers a combination is written by.
 const NUMBERS: usize = 5;
-
-pub enum Found {
-    Is(Combination),
-    Missing,
-}
 
 // Whether a call was accepted.
 pub enum Verdict {
@@ -46,106 +37,6 @@ pub enum Verdict {
 pub struct Moved {
     pub verdict: Verdict,
     pub link: Link,
-}
-
-// ---- one combination
-
-fn link_type(t: u8) -> bool
-    ensures { λ r. ⌜ r ≡ linkType t ⌝ }
-{
-    if t <= SID {
-        return true;
-    }
-    t as u64 == NO_DATA
-}
-
-fn combination_good(c: Combination) -> bool
-    ensures { λ r. ⌜ r ≡ combinationGood c ⌝ }
-{
-    if HIGHEST_RFCI < c.rfci as u64 {
-        return false;
-    }
-    if !link_type(c.frame_type) {
-        return false;
-    }
-    c.size1 as usize + c.size2 as usize + c.size3 as usize == core_bits(c.frame_type as usize)
-}
-
-// A good combination with an RFCI, or of a type.
-fn has_rfci(c: Combination, rfci: u8) -> bool
-    ensures { λ r. ⌜ r ≡ (has by-rfci rfci c && combinationGood c) ⌝ }
-{
-    if c.rfci == rfci {
-        return combination_good(c);
-    }
-    false
-}
-
-fn has_type(c: Combination, t: u8) -> bool
-    ensures { λ r. ⌜ r ≡ (has by-type t c && combinationGood c) ⌝ }
-{
-    if c.frame_type == t {
-        return combination_good(c);
-    }
-    false
-}
-
-// ---- lookup
-
-// The places that a count reaches: in a state that no call gave it may be more than there are.
-fn reached(count: u32) -> usize
-    ensures { λ r. ⌜ (r ≤ 11) × ((ps : List Combination) → length ps ≡ 11 → take r ps ≡ take count ps) ⌝ }
-{
-    let n = count as usize;
-    if n <= PLACES { n } else { PLACES }
-}
-
-// The first good combination with an RFCI, in the first `count` places.
-fn rfci_in(places: [Combination; 11], count: u32, rfci: u8) -> Found
-    ensures { λ r. ⌜ foundOf 16 r ≡ lookup by-rfci rfci (take count places) ⌝ }
-{
-    let end = reached(count);
-    let mut i: usize = 0;
-    while i < end {
-        let c = places[i];
-        if has_rfci(c, rfci) {
-            return Found::Is(c);
-        }
-        i += 1;
-    }
-    Found::Missing
-}
-
-// The first of a type. Two loops, since a function with one caller becomes part of it, and then the set is not copied.
-fn type_in(places: [Combination; 11], count: u32, t: u8) -> Found
-    ensures { λ r. ⌜ foundOf 16 r ≡ lookup by-type t (take count places) ⌝ }
-{
-    let end = reached(count);
-    let mut i: usize = 0;
-    while i < end {
-        let c = places[i];
-        if has_type(c, t) {
-            return Found::Is(c);
-        }
-        i += 1;
-    }
-    Found::Missing
-}
-
-// The combination with an RFCI, for Up.
-pub fn lookup_rfci(set: RfcSet, rfci: u8) -> Found
-    ensures { λ r. ⌜ foundOf 16 r ≡ lookup by-rfci rfci (combinations set) ⌝ }
-{
-    let places = set.places;
-    rfci_in(places, set.count, rfci)
-}
-
-// The combination of a type, for Down.
-pub fn lookup_type(set: RfcSet, t: u8) -> Found
-    ensures { λ r. ⌜ foundOf 16 r ≡ lookup by-type t (combinations set) ⌝ }
-{
-    let places = set.places;
-    type_in(places, set.count, t)
 }
 
 // ---- a set from numbers

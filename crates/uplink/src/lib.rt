@@ -1,4 +1,8 @@
 // Up: three sub-flows joined into an IF1 frame. `up` is an entry; `join_frame` is `pub` for level three.
+use combinations::Found;
+use combinations::HIGHEST_RFCI;
+use combinations::NO_DATA;
+use combinations::lookup_rfci;
 use frame::Built;
 use frame::Format;
 use frame::FrameHeader;
@@ -9,10 +13,6 @@ use frame_builder::build_if1;
 use frame_builder::core_fields_good;
 use frame_builder::core_fill_clear;
 use frame_builder::write_modes;
-use link_state::Found;
-use link_state::HIGHEST_RFCI;
-use link_state::NO_DATA;
-use link_state::lookup_rfci;
 use links::Combination;
 use links::Link;
 ghost use mathlib.Core.Path.{_≡_};

@@ -5,7 +5,7 @@ use borrow.Author.Tests.{not-true, not-false}
 use Rattle.bits.specs.Bits.{bits}
 use Rattle.definitions.specs.Frames.{if1, coreIn}
 use Rattle.frame.specs.Answers.{frameWith}
-use Rattle.link_state.specs.Answers.{foundOf}
+use Rattle.combinations.specs.Answers.{foundOf}
 use Rattle.downlink.proofs.DownLaws.{refused-into, bits-there, core-whole, frame-short, frame-into, frame-missing}
 use Rattle.downlink.proofs.split_read.Statement.{statement}
 use Rattle.downlink.proofs.split_read.Tie as tie

@@ -3,7 +3,7 @@ use borrow.Author.Needs.{needs}
 use mathlib.Core.Path.{sym, _∙_}
 use native.Mathlib.Omega.{arith}
 use Rattle.link_state.specs.Answers.{fiveAt}
-use Rattle.link_state.proofs.StateLaws.{rfci-high, type-wrong, link-type-high}
+use Rattle.combinations.proofs.CombinationLaws.{rfci-high, type-wrong, link-type-high}
 use Rattle.link_state.proofs.GatherLaws.{sum-wrong, given-wrong, given-right}
 use borrow.Author.Tests.{ne-eqb}
 use Rattle.link_state.proofs.combination_in.Statement.{statement}

@@ -9,7 +9,8 @@ use lib.ListN.{drop, replicate, drop-of-length-le}
 use borrow.Author.Tests.{not-true, not-false}
 use Rattle.links.specs.Sets.{combinationGood, allGood}
 use Rattle.links.specs.Calls.{inFives}
-use Rattle.link_state.specs.Answers.{foundOf, fiveAt}
+use Rattle.combinations.specs.Answers.{foundOf}
+use Rattle.link_state.specs.Answers.{fiveAt}
 use Rattle.link_state.proofs.GatherLaws.{stored, length-inFives, none-stored, given-is, given-not, turn-wrong, turn-not-apart, turn-good, turn-stored, gathered, false-true}
 use Rattle.link_state.proofs.gather.Statement.{statement}
 use Rattle.link_state.proofs.gather.Tie as tie

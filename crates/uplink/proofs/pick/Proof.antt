@@ -1,7 +1,7 @@
 -- `uplink::pick` meets its contract: each test is the definition's, and they are made in its order. Assumes nothing.
 use borrow.Author.Needs.{needs}
 use mathlib.Core.Path.{sym, ap, _∙_}
-use Rattle.link_state.specs.Answers.{foundOf}
+use Rattle.combinations.specs.Answers.{foundOf}
 use Rattle.uplink.proofs.UpLaws.{fqc-high, rfci-high, no-set, fqc-reserved, looks-up}
 use Rattle.uplink.proofs.pick.Statement.{statement}
 use Rattle.uplink.proofs.pick.Tie as tie

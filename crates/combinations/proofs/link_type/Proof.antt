@@ -1,7 +1,7 @@
--- `link_state::link_type` meets its contract. Assumes nothing.
-use Rattle.link_state.proofs.StateLaws.{link-type-low, link-type-high}
-use Rattle.link_state.proofs.link_type.Statement.{statement}
-use Rattle.link_state.proofs.link_type.Tie as tie
+-- `combinations::link_type` meets its contract. Assumes nothing.
+use Rattle.combinations.proofs.CombinationLaws.{link-type-low, link-type-high}
+use Rattle.combinations.proofs.link_type.Statement.{statement}
+use Rattle.combinations.proofs.link_type.Tie as tie
 
 returns : tie.Need-returns
 returns c = link-type-low (c .before .args .t) (c .if1 .taken)

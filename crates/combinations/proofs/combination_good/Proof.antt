@@ -1,10 +1,10 @@
--- `link_state::combination_good` meets its contract: each test is the definition's. Assumes nothing.
+-- `combinations::combination_good` meets its contract: each test is the definition's. Assumes nothing.
 use borrow.Author.Needs.{needs}
 use mathlib.Core.Path.{sym, _∙_}
 use borrow.Author.Tests.{not-true, not-false}
-use Rattle.link_state.proofs.StateLaws.{link-type-below, rfci-high, type-wrong, sum-tells}
-use Rattle.link_state.proofs.combination_good.Statement.{statement}
-use Rattle.link_state.proofs.combination_good.Tie as tie
+use Rattle.combinations.proofs.CombinationLaws.{link-type-below, rfci-high, type-wrong, sum-tells}
+use Rattle.combinations.proofs.combination_good.Statement.{statement}
+use Rattle.combinations.proofs.combination_good.Tie as tie
 
 cast-if1 : tie.Need-cast-if1
 cast-if1 c = search needs

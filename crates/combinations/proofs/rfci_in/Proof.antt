@@ -1,20 +1,20 @@
--- `link_state::type_in` meets its contract: what is left of the places tells the answer. Assumes nothing.
+-- `combinations::rfci_in` meets its contract: what is left of the places tells the answer. Assumes nothing.
 use borrow.Author.Needs.{needs}
 use mathlib.Core.Path.{_≡_, refl, sym, ap, _∙_}
 use Prim.Native.Nat.{_≤_, _-_}
 use native.Mathlib.Omega.{arith}
 use lib.ListN.{length}
 use lib.Seq.{slice, slice-empty}
-use Rattle.links.specs.Sets.{combination, by-type, lookup}
-use Rattle.link_state.proofs.StateLaws.{lookup-found, lookup-next}
-use Rattle.link_state.proofs.type_in.Statement.{statement}
-use Rattle.link_state.proofs.type_in.Tie as tie
+use Rattle.links.specs.Sets.{combination, by-rfci, lookup}
+use Rattle.combinations.proofs.CombinationLaws.{lookup-found, lookup-next}
+use Rattle.combinations.proofs.rfci_in.Statement.{statement}
+use Rattle.combinations.proofs.rfci_in.Tie as tie
 
 abbrev Inv-loop : tie.InvT-loop
-Inv-loop count t places end i₀ i = (i ≤ end) × (lookup by-type t (slice i end places) ≡ lookup by-type t (slice i₀ end places))
+Inv-loop count rfci places end i₀ i = (i ≤ end) × (lookup by-rfci rfci (slice i end places) ≡ lookup by-rfci rfci (slice i₀ end places))
 
 abbrev μ-loop : tie.MeasureT-loop
-μ-loop count t places end i₀ i = end - i
+μ-loop count rfci places end i₀ i = end - i
 
 whole : (c : tie.Start Inv-loop μ-loop) → length (c .args .t1) ≡ 11
 whole c = search needs
@@ -31,8 +31,8 @@ mul-c c = omega (arith, c .before .before .reached .ensures .0)
 array-copy-out-c : tie.Need-array-copy-out-c Inv-loop μ-loop
 array-copy-out-c c = omega (arith, c .before .before .reached .ensures .0)
 
-has-type-requires : tie.Need-has-type-requires Inv-loop μ-loop
-has-type-requires c κs = search needs
+has-rfci-requires : tie.Need-has-rfci-requires Inv-loop μ-loop
+has-rfci-requires c κs = search needs
 
 returns : tie.Need-returns Inv-loop μ-loop
 returns c =
@@ -40,9 +40,9 @@ returns c =
     let a = start .args in
     let r = c .before .before .before .before .before .reached in
     let at = c .before .before .before .before .loop in
-    lookup-found by-type (a .t) (at .i) (r .result) (a .t1) (combination 0 0 0 0 0) (c .before .before .before .loop-test .taken) (omega (arith, whole start, r .ensures .0)) (c .before .has-type .result)
-    (c .before .has-type .ensures) (c .if1 .taken)
-    ∙ at .inv .1 ∙ ap (lookup by-type (a .t)) (r .ensures .1 (a .t1) (whole start))
+    lookup-found by-rfci (a .rfci) (at .i) (r .result) (a .t1) (combination 0 0 0 0 0) (c .before .before .before .loop-test .taken) (omega (arith, whole start, r .ensures .0)) (c .before .has-rfci .result)
+    (c .before .has-rfci .ensures) (c .if1 .taken)
+    ∙ at .inv .1 ∙ ap (lookup by-rfci (a .rfci)) (r .ensures .1 (a .t1) (whole start))
 
 add-i : tie.Need-add-i Inv-loop μ-loop
 add-i c = omega (arith, c .before .before .before .before .before .reached .ensures .0)
@@ -57,8 +57,8 @@ loop-again c =
     let r = c .before .before .before .before .before .reached in
     let at = c .before .before .before .before .loop in (
       omega arith,
-      lookup-next by-type (a .t) (at .i) (r .result) (a .t1) (combination 0 0 0 0 0) (c .before .before .before .loop-test .taken) (omega (arith, whole start, r .ensures .0)) (c .before .has-type .result)
-          (c .before .has-type .ensures) (c .if1 .left) ∙ at .inv .1,
+      lookup-next by-rfci (a .rfci) (at .i) (r .result) (a .t1) (combination 0 0 0 0 0) (c .before .before .before .loop-test .taken) (omega (arith, whole start, r .ensures .0)) (c .before .has-rfci .result)
+          (c .before .has-rfci .ensures) (c .if1 .left) ∙ at .inv .1,
     )
 
 returns-2 : tie.Need-returns-2 Inv-loop μ-loop
@@ -68,11 +68,11 @@ returns-2 c =
     let r = c .before .before .reached in
     let at = c .before .loop in
     let e : at .i ≡ r .result = omega arith in
-    sym (ap (lookup by-type (a .t)) (sym (r .ensures .1 (a .t1) (whole start))) ∙ sym (at .inv .1)
-    ∙ ap (λ i. lookup by-type (a .t) (slice i (r .result) (a .t1))) e ∙ ap (lookup by-type (a .t)) (slice-empty (r .result) (a .t1)))
+    sym (ap (lookup by-rfci (a .rfci)) (sym (r .ensures .1 (a .t1) (whole start))) ∙ sym (at .inv .1)
+    ∙ ap (λ i. lookup by-rfci (a .rfci) (slice i (r .result) (a .t1))) e ∙ ap (lookup by-rfci (a .rfci)) (slice-empty (r .result) (a .t1)))
 
-pub type-in-spec : {M : Type 1} → statement M
-type-in-spec =
+pub rfci-in-spec : {M : Type 1} → statement M
+rfci-in-spec =
     tie.close
     (tie.spec
     Inv-loop
@@ -81,7 +81,7 @@ type-in-spec =
     loop-holds
     mul-c
     array-copy-out-c
-    has-type-requires
+    has-rfci-requires
     returns
     add-i
     loop-less

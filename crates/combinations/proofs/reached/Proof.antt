@@ -1,9 +1,9 @@
--- `link_state::reached` meets its contract. Assumes nothing.
+-- `combinations::reached` meets its contract. Assumes nothing.
 use borrow.Author.Needs.{needs}
 use native.Mathlib.Omega.{arith}
-use Rattle.link_state.proofs.StateLaws.{take-beyond}
-use Rattle.link_state.proofs.reached.Statement.{statement}
-use Rattle.link_state.proofs.reached.Tie as tie
+use Rattle.combinations.proofs.CombinationLaws.{take-beyond}
+use Rattle.combinations.proofs.reached.Statement.{statement}
+use Rattle.combinations.proofs.reached.Tie as tie
 
 returns : tie.Need-returns
 returns c = search needs
