@@ -1,3 +1,2 @@
 pub mod Subflows
-pub mod Judging
 pub mod Answers

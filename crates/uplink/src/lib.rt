@@ -1,8 +1,5 @@
 // Up: three sub-flows joined into an IF1 frame. `up` is an entry; `join_frame` is `pub` for level three.
-use combinations::Found;
-use combinations::HIGHEST_RFCI;
 use combinations::NO_DATA;
-use combinations::lookup_rfci;
 use frame::Built;
 use frame::Format;
 use frame::FrameHeader;
@@ -11,36 +8,28 @@ use frame::Refusal;
 use frame::table::core_octets;
 use frame_builder::build_if1;
 use frame_builder::core_fields_good;
-use frame_builder::core_fill_clear;
 use frame_builder::write_modes;
 use links::Combination;
 use links::Link;
+use uplink_judge::Judged;
+use uplink_judge::judge;
+use uplink_judge::quality_of;
 ghost use mathlib.Core.Path.{_≡_};
 ghost use mathlib.Core.Bool.{Bool, true, cond};
 ghost use mathlib.Core.List.{List, [], _++_};
 ghost use Prim.Native.Nat.{ℕ, _+_, _*_, _^_, _<_, _≤_};
-ghost use lib.Dec.{eqb, leb};
+ghost use lib.Dec.{leb};
 ghost use lib.ListN.{length, take, drop};
 ghost use Rattle.bits.specs.Bits.{bits, pack, octetsFor};
 ghost use Rattle.definitions.specs.Frames.{frameBy};
 ghost use Rattle.links.specs.Sets.{combinationGood};
-ghost use Rattle.links.specs.Calls.{subflowGood, subflowsGood, joined, upFrame, written, upCall};
+ghost use Rattle.links.specs.Calls.{subflowsGood, joined, upFrame, written, upCall};
 ghost use Rattle.frame_builder.specs.Output.{IntoOutput};
 ghost use Rattle.uplink.specs.Subflows.{Joinable};
-ghost use Rattle.uplink.specs.Judging.{picked, pickedOf, Judges};
 ghost use Rattle.uplink.specs.Answers.{UpInto};
 
-// The papers' numbers at the widths that are asked here.
-const SID: u8 = frame::SID as u8;
-
+// The paper's number at the width that is asked here.
 const HIGHEST_MODE: u8 = frame::HIGHEST_MODE as u8;
-
-// FQC: good, and bad, of which nothing is read. 3 is reserved.
-const GOOD: u64 = 0;
-
-const BAD: u64 = 1;
-
-const RESERVED: u64 = 3;
 
 // The octets of the longest core.
 const CORE_MOST: usize = 60;
@@ -49,41 +38,6 @@ const CORE_MOST: usize = 60;
 pub struct UpAnswer {
     pub answer: Built,
     pub link: Link,
-}
-
-enum Picked {
-    Is(Combination),
-    Refused(Refusal),
-}
-
-// What is to be written: the frame of a combination that has a core, a frame of type 15 by its quality, or nothing.
-enum Judged {
-    Core(Combination),
-    Empty(u8),
-    Refused(Refusal),
-}
-
-// A sub-flow has exactly its octets, and its filling is 0.
-fn subflow_good(s: &[u8], size: u16) -> bool
-    ensures { λ r. ⌜ r ≡ subflowGood size (now (s .entry)) ⌝ }
-{
-    let n = size as usize;
-    if s.len() != (n + 7) / 8 {
-        return false;
-    }
-    core_fill_clear(s, n)
-}
-
-fn subflows_good(c: Combination, s1: &[u8], s2: &[u8], s3: &[u8]) -> bool
-    ensures { λ r. ⌜ r ≡ subflowsGood c (now (s1 .entry)) (now (s2 .entry)) (now (s3 .entry)) ⌝ }
-{
-    if !subflow_good(s1, c.size1) {
-        return false;
-    }
-    if !subflow_good(s2, c.size2) {
-        return false;
-    }
-    subflow_good(s3, c.size3)
 }
 
 // Puts a sub-flow behind the first `at` bits of a core, behind which there is nothing but the filling.
@@ -115,13 +69,6 @@ fn indication_of(t: u8) -> u8
     ensures { λ r. ⌜ r ≡ cond (leb t 8) t 0 ⌝ }
 {
     if t <= HIGHEST_MODE { t } else { 0 }
-}
-
-// The quality of an FQC of which the sub-flows are read.
-fn quality_of(fqc: u64) -> u8
-    ensures { λ r. ⌜ (r ≡ cond (eqb fqc 0) 1 0) × (r < 2) ⌝ }
-{
-    if fqc == GOOD { 1 } else { 0 }
 }
 
 // Makes the frame of types 0 to 9 of sub-flows that are right: joined, judged and written.
@@ -165,50 +112,6 @@ fn build_empty(quality: u8, none: &[u8], out: &mut [u8]) -> Built
     ensures { λ r. ⌜ IntoOutput (written (frameBy 15 quality 0 0 []) (length (now (out .entry)))) (now (out .entry)) (now (out .exit)) r ⌝ }
 {
     build_if1(NO_DATA, quality as u64, 0, 0, none, out)
-}
-
-// The combination of an RFCI, or why Up is refused before a sub-flow is read.
-fn pick(link: Link, fqc: u64, rfci: u64) -> Picked
-    ensures { λ r. ⌜ pickedOf r ≡ picked link fqc rfci ⌝ }
-{
-    if RESERVED < fqc {
-        return Picked::Refused(Refusal::ArgumentRange);
-    }
-    if HIGHEST_RFCI < rfci {
-        return Picked::Refused(Refusal::ArgumentRange);
-    }
-    if link.set.count == 0 {
-        return Picked::Refused(Refusal::NoSet);
-    }
-    if fqc == RESERVED {
-        return Picked::Refused(Refusal::FqcReserved);
-    }
-    let set = link.set;
-    let Found::Is(c) = lookup_rfci(set, rfci as u8) else {
-        return Picked::Refused(Refusal::NotInSet);
-    };
-    Picked::Is(c)
-}
-
-// What Up is to write. Three functions and not one, since the compiler takes a call behind many tests for a rare one, and leaves it a call.
-fn judge(link: Link, fqc: u64, rfci: u64, s1: &[u8], s2: &[u8], s3: &[u8]) -> Judged
-    ensures { λ r. ⌜ Judges link fqc rfci (now (s1 .entry)) (now (s2 .entry)) (now (s3 .entry)) r ⌝ }
-{
-    match pick(link, fqc, rfci) {
-        Picked::Is(c) => {
-            if fqc == BAD {
-                return Judged::Empty(0);
-            }
-            if !subflows_good(c, s1, s2, s3) {
-                return Judged::Refused(Refusal::SubflowBuffer);
-            }
-            if SID < c.frame_type {
-                return Judged::Empty(quality_of(fqc));
-            }
-            Judged::Core(c)
-        }
-        Picked::Refused(e) => Judged::Refused(e),
-    }
 }
 
 // Makes an IF1 frame of three sub-flows, by FQC and RFCI. `pub` for level three, which has no use for the state handed on.

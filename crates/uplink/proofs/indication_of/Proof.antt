@@ -1,6 +1,6 @@
 -- `uplink::indication_of` meets its contract. Assumes nothing.
 use borrow.Author.Tests.{le-leb, lt-leb}
-use Rattle.uplink.proofs.UpLaws.{chosen, other}
+use Rattle.uplink_judge.proofs.JudgeLaws.{chosen, other}
 use Rattle.uplink.proofs.indication_of.Statement.{statement}
 use Rattle.uplink.proofs.indication_of.Tie as tie
 

@@ -2,7 +2,7 @@
 use borrow.Author.Needs.{needs}
 use mathlib.Core.Path.{refl, sym, ap, _∙_}
 use lib.ListN.{length}
-use Rattle.uplink.specs.Judging.{writes}
+use Rattle.uplink_judge.specs.Judging.{writes}
 use Rattle.uplink.proofs.UpLaws.{refused-up, into-same}
 use Rattle.uplink.proofs.join_frame.Statement.{statement}
 use Rattle.uplink.proofs.join_frame.Tie as tie

@@ -1,11 +1,11 @@
--- `uplink::judge` meets its contract: what is behind the tests of the definition is left to write. Assumes nothing.
+-- `uplink_judge::judge` meets its contract: what is behind the tests of the definition is left to write. Assumes nothing.
 use borrow.Author.Needs.{needs}
 use mathlib.Core.Path.{sym, ap, _∙_}
 use borrow.Author.Tests.{not-true, not-false}
-use Rattle.uplink.specs.Judging.{pickedOf}
-use Rattle.uplink.proofs.UpLaws.{judges-refused, judges-bad, judges-subflows, judges-empty, judges-core}
-use Rattle.uplink.proofs.judge.Statement.{statement}
-use Rattle.uplink.proofs.judge.Tie as tie
+use Rattle.uplink_judge.specs.Judging.{pickedOf}
+use Rattle.uplink_judge.proofs.JudgeLaws.{judges-refused, judges-bad, judges-subflows, judges-empty, judges-core}
+use Rattle.uplink_judge.proofs.judge.Statement.{statement}
+use Rattle.uplink_judge.proofs.judge.Tie as tie
 
 pick-requires : tie.Need-pick-requires
 pick-requires c κs = search needs

@@ -1,10 +1,10 @@
--- `uplink::subflows_good` meets its contract: the three are judged in turn. Assumes nothing.
+-- `uplink_judge::subflows_good` meets its contract: the three are judged in turn. Assumes nothing.
 use borrow.Author.Needs.{needs}
 use mathlib.Core.Path.{sym, _∙_}
 use borrow.Author.Tests.{not-true, not-false}
-use Rattle.uplink.proofs.UpLaws.{first-wrong, second-wrong, third-tells}
-use Rattle.uplink.proofs.subflows_good.Statement.{statement}
-use Rattle.uplink.proofs.subflows_good.Tie as tie
+use Rattle.uplink_judge.proofs.JudgeLaws.{first-wrong, second-wrong, third-tells}
+use Rattle.uplink_judge.proofs.subflows_good.Statement.{statement}
+use Rattle.uplink_judge.proofs.subflows_good.Tie as tie
 
 subflow-good-requires : tie.Need-subflow-good-requires
 subflow-good-requires c κs = search needs

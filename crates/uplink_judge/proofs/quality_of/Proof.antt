@@ -1,9 +1,9 @@
--- `uplink::quality_of` meets its contract. Assumes nothing.
+-- `uplink_judge::quality_of` meets its contract. Assumes nothing.
 use native.Mathlib.Omega.{arith}
 use borrow.Author.Tests.{eq-eqb, ne-eqb}
-use Rattle.uplink.proofs.UpLaws.{chosen, other}
-use Rattle.uplink.proofs.quality_of.Statement.{statement}
-use Rattle.uplink.proofs.quality_of.Tie as tie
+use Rattle.uplink_judge.proofs.JudgeLaws.{chosen, other}
+use Rattle.uplink_judge.proofs.quality_of.Statement.{statement}
+use Rattle.uplink_judge.proofs.quality_of.Tie as tie
 
 returns : tie.Need-returns
 returns c = (chosen _ 1 0 (eq-eqb _ 0 (c .if1 .taken)), omega arith)

@@ -1,10 +1,10 @@
--- `uplink::pick` meets its contract: each test is the definition's, and they are made in its order. Assumes nothing.
+-- `uplink_judge::pick` meets its contract: each test is the definition's, and they are made in its order. Assumes nothing.
 use borrow.Author.Needs.{needs}
 use mathlib.Core.Path.{sym, ap, _∙_}
 use Rattle.combinations.specs.Answers.{foundOf}
-use Rattle.uplink.proofs.UpLaws.{fqc-high, rfci-high, no-set, fqc-reserved, looks-up}
-use Rattle.uplink.proofs.pick.Statement.{statement}
-use Rattle.uplink.proofs.pick.Tie as tie
+use Rattle.uplink_judge.proofs.JudgeLaws.{fqc-high, rfci-high, no-set, fqc-reserved, looks-up}
+use Rattle.uplink_judge.proofs.pick.Statement.{statement}
+use Rattle.uplink_judge.proofs.pick.Tie as tie
 
 returns : tie.Need-returns
 returns c = let a = c .before .args in fqc-high (a .link) (a .fqc) (a .rfci) (c .if1 .taken)

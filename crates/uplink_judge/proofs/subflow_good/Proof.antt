@@ -1,9 +1,9 @@
--- `uplink::subflow_good` meets its contract. Assumes nothing.
+-- `uplink_judge::subflow_good` meets its contract. Assumes nothing.
 use borrow.Author.Needs.{needs}
 use mathlib.Core.Path.{_∙_}
-use Rattle.uplink.proofs.UpLaws.{octets-wrong, fill-tells}
-use Rattle.uplink.proofs.subflow_good.Statement.{statement}
-use Rattle.uplink.proofs.subflow_good.Tie as tie
+use Rattle.uplink_judge.proofs.JudgeLaws.{octets-wrong, fill-tells}
+use Rattle.uplink_judge.proofs.subflow_good.Statement.{statement}
+use Rattle.uplink_judge.proofs.subflow_good.Tie as tie
 
 add-if1 : tie.Need-add-if1
 add-if1 c = search needs

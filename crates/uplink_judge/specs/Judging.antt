@@ -11,10 +11,10 @@ use Rattle.links.specs.declared.Combination.{Combination}
 use Rattle.links.specs.declared.Link.{Link}
 use Rattle.links.specs.Sets.{combinationGood, combinations, by-rfci, lookup}
 use Rattle.links.specs.Calls.{hasSet, subflowsGood, upFrame, written, upCall}
-use Rattle.uplink.specs.declared.Picked.{Picked}
-use Rattle.uplink.specs.declared.Picked.the-variants as picked-as
-use Rattle.uplink.specs.declared.Judged.{Judged}
-use Rattle.uplink.specs.declared.Judged.the-variants.{Core, Empty, Refused}
+use Rattle.uplink_judge.specs.declared.Picked.{Picked}
+use Rattle.uplink_judge.specs.declared.Picked.the-variants as picked-as
+use Rattle.uplink_judge.specs.declared.Judged.{Judged}
+use Rattle.uplink_judge.specs.declared.Judged.the-variants.{Core, Empty, Refused}
 
 -- 11, 14, 13 and 16, the front of `upCall`
 unfoldable pub picked : Link → (fqc rfci : ℕ) → Outcome Combination
