@@ -2,9 +2,10 @@
 use mathlib.Core.Path.{_≡_}
 use Prim.Native.Nat.{ℕ}
 use Rattle.links.specs.declared.Link.{Link}
-use Rattle.downlink.specs.declared.Subflows.{Subflows}
+use Rattle.downlink_flows.specs.declared.Subflows.{Subflows}
+use Rattle.downlink_flows.specs.Answers.{forwardOf}
 use Rattle.downlink.specs.declared.Downlinked.the-variants.{Split}
-use Rattle.downlink.specs.Answers.{forwardOf, downOf}
+use Rattle.downlink.specs.Answers.{downOf}
 use Rattle.link_answers.specs.Flat.{isForwarded, requestForwarded, downNumbers}
 use Rattle.link_answers.specs.declared.DownNumbers.{DownNumbers}
 

@@ -7,7 +7,8 @@ use Rattle.definitions.specs.Outcome.{Outcome, refused, ok}
 use Rattle.links.specs.declared.Link.{Link}
 use Rattle.links.specs.Calls.{Forward, nothing, request, Down, downAfter}
 use Rattle.links.specs.History.{Reply, refusal, accepted, frame, subflows}
-use Rattle.downlink.specs.Answers.{Numbers, shown, flowAfter}
+use Rattle.downlink_flows.specs.Answers.{Numbers}
+use Rattle.downlink.specs.Answers.{shown, flowAfter}
 use Rattle.link_answers.specs.declared.LinkAnswer.{LinkAnswer}
 use Rattle.link_answers.specs.declared.DownNumbers.{DownNumbers}
 

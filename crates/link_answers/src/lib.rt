@@ -1,10 +1,11 @@
 // The answers of the link's calls as numbers (include/amrwb.h), as specs/Flat.antt says. For level three's export crate.
 ghost use mathlib.Core.Path.{_≡_};
 ghost use Rattle.link_state.specs.Answers.{verdictOf, movedOf};
-ghost use Rattle.downlink.specs.Answers.{forwardOf, downOf};
+ghost use Rattle.downlink_flows.specs.Answers.{forwardOf};
+ghost use Rattle.downlink.specs.Answers.{downOf};
 ghost use Rattle.link_answers.specs.Flat.{refusalNumber, linkNumbers, isForwarded, requestForwarded, downNumbers};
 use downlink::Downlinked;
-use downlink::Forward;
+use downlink_flows::Forward;
 use link_state::Moved;
 use link_state::Verdict;
 use links::Link;

@@ -2,7 +2,8 @@
 use borrow.Author.Needs.{needs}
 use mathlib.Core.Path.{sym, ap, _∙_}
 use Rattle.links.specs.Calls.{linkBy, recorded}
-use Rattle.downlink.specs.Answers.{forwardOf, downOf, nextLink}
+use Rattle.downlink_flows.specs.Answers.{forwardOf}
+use Rattle.downlink.specs.Answers.{downOf, nextLink}
 use Rattle.downlink.proofs.forwarded_after.Statement.{statement}
 use Rattle.downlink.proofs.forwarded_after.Tie as tie
 

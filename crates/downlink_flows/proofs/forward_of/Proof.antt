@@ -1,9 +1,9 @@
--- `downlink::forward_of` meets its contract. Assumes nothing.
+-- `downlink_flows::forward_of` meets its contract. Assumes nothing.
 use borrow.Author.Needs.{needs}
 use mathlib.Core.Path.{sym, _∙_}
-use Rattle.downlink.proofs.DownLaws.{forwards-it, forwards-nothing}
-use Rattle.downlink.proofs.forward_of.Statement.{statement}
-use Rattle.downlink.proofs.forward_of.Tie as tie
+use Rattle.downlink_flows.proofs.FlowLaws.{forwards-it, forwards-nothing}
+use Rattle.downlink_flows.proofs.forward_of.Statement.{statement}
+use Rattle.downlink_flows.proofs.forward_of.Tie as tie
 
 is-forwarded-requires : tie.Need-is-forwarded-requires
 is-forwarded-requires c κs = search needs

@@ -1,8 +1,8 @@
--- `downlink::is_roomy` meets its contract: each test is the definition's. Assumes nothing.
+-- `downlink_flows::is_roomy` meets its contract: each test is the definition's. Assumes nothing.
 use borrow.Author.Needs.{needs}
-use Rattle.downlink.proofs.DownLaws.{short1, short2, last-tells}
-use Rattle.downlink.proofs.is_roomy.Statement.{statement}
-use Rattle.downlink.proofs.is_roomy.Tie as tie
+use Rattle.downlink_flows.proofs.FlowLaws.{short1, short2, last-tells}
+use Rattle.downlink_flows.proofs.is_roomy.Statement.{statement}
+use Rattle.downlink_flows.proofs.is_roomy.Tie as tie
 
 octets-for-requires : tie.Need-octets-for-requires
 octets-for-requires c κs = search needs

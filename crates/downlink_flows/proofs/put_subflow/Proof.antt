@@ -1,9 +1,9 @@
--- `downlink::put_subflow` meets its contract. Assumes nothing.
+-- `downlink_flows::put_subflow` meets its contract. Assumes nothing.
 use borrow.Author.Needs.{needs}
 use Rattle.bits.specs.Bits.{bits}
-use Rattle.downlink.proofs.DownLaws.{run-put, none-put}
-use Rattle.downlink.proofs.put_subflow.Statement.{statement}
-use Rattle.downlink.proofs.put_subflow.Tie as tie
+use Rattle.downlink_flows.proofs.FlowLaws.{run-put, none-put}
+use Rattle.downlink_flows.proofs.put_subflow.Statement.{statement}
+use Rattle.downlink_flows.proofs.put_subflow.Tie as tie
 
 returns : tie.Need-returns
 returns c = let a = c .before .before .before .args in none-put (bits (a .frame .now)) (a .from) (a .n) (a .s .now) (c .if1 .taken)

@@ -1,4 +1,4 @@
--- `downlink::put_subflows` meets its contract: each sub-flow is put into the front of its buffer. Assumes nothing.
+-- `downlink_flows::put_subflows` meets its contract: each sub-flow is put into the front of its buffer. Assumes nothing.
 use borrow.Author.Needs.{needs}
 use mathlib.Core.Path.{ap, _∙_}
 use mathlib.Core.List.{_++_}
@@ -7,9 +7,9 @@ use native.Mathlib.Nat.{add-assoc}
 use native.Mathlib.Omega.{arith}
 use lib.ListN.{take, drop}
 use Rattle.bits.specs.Bits.{bits, pack, octetsFor}
-use Rattle.downlink.proofs.DownLaws.{roomy-known, flow-put}
-use Rattle.downlink.proofs.put_subflows.Statement.{statement}
-use Rattle.downlink.proofs.put_subflows.Tie as tie
+use Rattle.downlink_flows.proofs.FlowLaws.{roomy-known, flow-put}
+use Rattle.downlink_flows.proofs.put_subflows.Statement.{statement}
+use Rattle.downlink_flows.proofs.put_subflows.Tie as tie
 
 cast-n1 : tie.Need-cast-n1
 cast-n1 c = search needs

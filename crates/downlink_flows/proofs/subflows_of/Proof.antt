@@ -1,12 +1,12 @@
--- `downlink::subflows_of` meets its contract: what is answered is counted from the sub-flows' sizes. Assumes nothing.
+-- `downlink_flows::subflows_of` meets its contract: what is answered is counted from the sub-flows' sizes. Assumes nothing.
 use borrow.Author.Needs.{needs}
 use mathlib.Core.Path.{sym, ap, _∙_}
 use mathlib.Core.Bool.{cond}
 use Rattle.frame.specs.Answers.{frameWith}
 use Rattle.links.specs.Calls.{nothing, request, forwards}
-use Rattle.downlink.proofs.DownLaws.{numbers-split}
-use Rattle.downlink.proofs.subflows_of.Statement.{statement}
-use Rattle.downlink.proofs.subflows_of.Tie as tie
+use Rattle.downlink_flows.proofs.FlowLaws.{numbers-split}
+use Rattle.downlink_flows.proofs.subflows_of.Statement.{statement}
+use Rattle.downlink_flows.proofs.subflows_of.Tie as tie
 
 fqc-of-requires : tie.Need-fqc-of-requires
 fqc-of-requires c κs = search needs

@@ -1,8 +1,8 @@
--- `downlink::is_forwarded` meets its contract. Assumes nothing.
+-- `downlink_flows::is_forwarded` meets its contract. Assumes nothing.
 use borrow.Author.Needs.{needs}
-use Rattle.downlink.proofs.DownLaws.{forwards-none, forwards-other}
-use Rattle.downlink.proofs.is_forwarded.Statement.{statement}
-use Rattle.downlink.proofs.is_forwarded.Tie as tie
+use Rattle.downlink_flows.proofs.FlowLaws.{forwards-none, forwards-other}
+use Rattle.downlink_flows.proofs.is_forwarded.Statement.{statement}
+use Rattle.downlink_flows.proofs.is_forwarded.Tie as tie
 
 returns : tie.Need-returns
 returns c = λ core. let a = c .before .before .args in forwards-none (a .h) (a .last) core (c .if1 .taken)
