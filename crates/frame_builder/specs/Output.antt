@@ -1,32 +1,13 @@
--- What a call that builds a frame promises of its answer and of the output buffer, and what is asked where a frame is written.
+-- What a call that builds a frame promises of its answer and of the output buffer.
 use mathlib.Core.Path.{_≡_}
-use mathlib.Core.Bool.{true}
 use mathlib.Core.List.{List}
-use Prim.Native.Nat.{ℕ, _+_, _*_, _^_, _<_, _≤_}
-use lib.ListN.{length, take, drop}
-use Rattle.bits.specs.Bits.{bits}
+use Prim.Native.Nat.{ℕ}
 use Rattle.definitions.specs.Outcome.{Outcome}
-use Rattle.definitions.specs.Frames.{Format, Frame, known, coreBits, octets}
 use Rattle.definitions.specs.Reading.{counted, outputAfter}
-use Rattle.frame.specs.Answers.{frameWith, builtOf}
+use Rattle.frame.specs.Answers.{builtOf}
 use Rattle.frame.specs.declared.Built.{Built}
-use Rattle.frame.specs.declared.FrameHeader.{FrameHeader}
 
 -- the output buffer is d₀ before the call and d after it
 pub record IntoOutput (o : Outcome (List ℕ)) (d₀ d : List ℕ) (r : Built) : Type 0 where
   pub answer : builtOf r ≡ counted o
   pub buffer : d ≡ outputAfter o d₀
-
--- the frame of a header whose core stands in octets from a bit on
-abbrev pub runFrame : FrameHeader → List ℕ → ℕ → Frame
-runFrame h src from = frameWith h (take (coreBits (h .«frame_type»)) (drop from (bits src)))
-
--- what is asked where a frame is written: its fields have their bits, the core is there, and the output has room
-pub record Writable (f : Format) (h : FrameHeader) (src : List ℕ) (from : ℕ) (out : List ℕ) : Type 0 where
-  pub type-known : known (h .«frame_type») ≡ true
-  pub quality-bit : h .quality < 2
-  pub indication-bits : h .indication < 16
-  pub request-bits : h .request < 16
-  pub core-there : from + coreBits (h .«frame_type») ≤ 8 * length src
-  pub core-near : from + coreBits (h .«frame_type») < 2 ^ 32
-  pub room : octets f (h .«frame_type») ≤ length out

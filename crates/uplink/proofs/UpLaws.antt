@@ -22,7 +22,8 @@ use Rattle.frame.specs.declared.Refusal.{Refusal}
 use Rattle.frame.specs.declared.Built.{Built}
 use Rattle.frame.specs.declared.Built.the-variants.{Octets, Refused}
 use Rattle.frame.proofs.TableLaws.{modes-carried}
-use Rattle.frame_builder.specs.Output.{IntoOutput, Writable}
+use Rattle.frame_writer.specs.Writing.{Writable}
+use Rattle.frame_builder.specs.Output.{IntoOutput}
 use Rattle.frame_builder.proofs.BuilderLaws.{modes-fit}
 use Rattle.links.specs.declared.Combination.{Combination}
 use Rattle.links.specs.Sets.{combinationGood}

@@ -8,7 +8,7 @@ use frame::Refusal;
 use frame::table::core_octets;
 use frame_builder::build_if1;
 use frame_builder::core_fields_good;
-use frame_builder::write_modes;
+use frame_writer::write_modes;
 use links::Combination;
 use links::Link;
 use uplink_judge::Judged;

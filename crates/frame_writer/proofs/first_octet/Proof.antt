@@ -1,8 +1,8 @@
--- `frame_builder::first_octet` meets its contract, format by format. Assumes nothing.
+-- `frame_writer::first_octet` meets its contract, format by format. Assumes nothing.
 use borrow.Author.Needs.{needs}
-use Rattle.frame_builder.proofs.BuilderLaws.{first-if, first-storage}
-use Rattle.frame_builder.proofs.first_octet.Statement.{statement}
-use Rattle.frame_builder.proofs.first_octet.Tie as tie
+use Rattle.frame_writer.proofs.WriterLaws.{first-if, first-storage}
+use Rattle.frame_writer.proofs.first_octet.Statement.{statement}
+use Rattle.frame_writer.proofs.first_octet.Tie as tie
 
 mul-v : tie.Need-mul-v
 mul-v c = search needs

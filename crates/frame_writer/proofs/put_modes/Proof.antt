@@ -1,4 +1,4 @@
--- `frame_builder::put_modes` meets its contract: the CRC is that of the core behind the header, and the three header octets are stored. Assumes nothing.
+-- `frame_writer::put_modes` meets its contract: the CRC is that of the core behind the header, and the three header octets are stored. Assumes nothing.
 use borrow.Author.Needs.{needs}
 use mathlib.Core.Path.{refl}
 use Prim.Native.Nat.{_+_, _-_, _*_, _≤_}
@@ -8,9 +8,9 @@ use lib.Seq.{length-take-le}
 use Rattle.definitions.specs.Frames.{if1}
 use Rattle.definitions.proofs.Tables.{known-below, class-a-within}
 use Rattle.frame.proofs.TableLaws.{modes-carried, room}
-use Rattle.frame_builder.proofs.BuilderLaws.{modes-known, modes-is}
-use Rattle.frame_builder.proofs.put_modes.Statement.{statement}
-use Rattle.frame_builder.proofs.put_modes.Tie as tie
+use Rattle.frame_writer.proofs.WriterLaws.{modes-known, modes-is}
+use Rattle.frame_writer.proofs.put_modes.Statement.{statement}
+use Rattle.frame_writer.proofs.put_modes.Tie as tie
 
 -- the frame has its three header octets, and its core
 sized : (c : tie.Start) → 4 ≤ length (c .args .out .now)

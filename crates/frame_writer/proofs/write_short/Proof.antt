@@ -1,4 +1,4 @@
--- `frame_builder::write_short` meets its contract: the header octet is stored, and the core put behind its header bits. Assumes nothing.
+-- `frame_writer::write_short` meets its contract: the header octet is stored, and the core put behind its header bits. Assumes nothing.
 use borrow.Author.Needs.{needs}
 use mathlib.Core.Path.{_∙_}
 use native.Mathlib.Omega.{arith}
@@ -6,9 +6,9 @@ use lib.ListN.{length-set}
 use Rattle.frame.specs.Answers.{formatOf}
 use Rattle.definitions.proofs.Tables.{known-below, sized}
 use Rattle.frame.proofs.TableLaws.{room}
-use Rattle.frame_builder.proofs.BuilderLaws.{short-is}
-use Rattle.frame_builder.proofs.write_short.Statement.{statement}
-use Rattle.frame_builder.proofs.write_short.Tie as tie
+use Rattle.frame_writer.proofs.WriterLaws.{short-is}
+use Rattle.frame_writer.proofs.write_short.Statement.{statement}
+use Rattle.frame_writer.proofs.write_short.Tie as tie
 
 cast-t : tie.Need-cast-t
 cast-t c = search needs

@@ -1,4 +1,4 @@
--- `frame_builder::write_modes` meets its contract: the core is put behind 24 bits, and the header in front of it. Assumes nothing.
+-- `frame_writer::write_modes` meets its contract: the core is put behind 24 bits, and the header in front of it. Assumes nothing.
 use borrow.Author.Needs.{needs}
 use native.Mathlib.Omega.{arith}
 use lib.ListN.{take, drop}
@@ -6,9 +6,9 @@ use Rattle.bits.specs.Bits.{bits, Octets}
 use Rattle.definitions.specs.Frames.{if1, coreBits, octets}
 use Rattle.definitions.proofs.Tables.{known-below}
 use Rattle.frame.proofs.TableLaws.{modes-carried, room}
-use Rattle.frame_builder.proofs.BuilderLaws.{core-size, three-there, core-put}
-use Rattle.frame_builder.proofs.write_modes.Statement.{statement}
-use Rattle.frame_builder.proofs.write_modes.Tie as tie
+use Rattle.frame_writer.proofs.WriterLaws.{core-size, three-there, core-put}
+use Rattle.frame_writer.proofs.write_modes.Statement.{statement}
+use Rattle.frame_writer.proofs.write_modes.Tie as tie
 
 cast-core-bits : tie.Need-cast-core-bits
 cast-core-bits c = search needs

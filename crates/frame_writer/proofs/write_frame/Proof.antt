@@ -1,4 +1,4 @@
--- `frame_builder::write_frame` meets its contract: only IF1 carries modes. Assumes nothing.
+-- `frame_writer::write_frame` meets its contract: only IF1 carries modes. Assumes nothing.
 use borrow.Author.Needs.{needs}
 use mathlib.Core.Path.{_≡_, sym, _∙_, subst}
 use mathlib.Core.List.{_++_}
@@ -6,10 +6,10 @@ use mathlib.Core.Bool.{true}
 use lib.ListN.{drop}
 use Rattle.definitions.specs.Frames.{octets, layout, carriesModes}
 use Rattle.frame.specs.Answers.{formatOf}
-use Rattle.frame_builder.specs.Output.{runFrame, Writable}
-use Rattle.frame_builder.proofs.BuilderLaws.{only-if1}
-use Rattle.frame_builder.proofs.write_frame.Statement.{statement}
-use Rattle.frame_builder.proofs.write_frame.Tie as tie
+use Rattle.frame_writer.specs.Writing.{runFrame, Writable}
+use Rattle.frame_writer.proofs.WriterLaws.{only-if1}
+use Rattle.frame_writer.proofs.write_frame.Statement.{statement}
+use Rattle.frame_writer.proofs.write_frame.Tie as tie
 
 cast-carries-modes : tie.Need-cast-carries-modes
 cast-carries-modes c = search needs
