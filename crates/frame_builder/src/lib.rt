@@ -19,7 +19,7 @@ ghost use Rattle.definitions.specs.Reading.{bufferCore, buildCheck, buildFrame}
 ghost use Rattle.frame.specs.Answers.{formatOf, readingOf};
 ghost use Rattle.frame_builder.specs.Output.{IntoOutput};
 
-// The filling bits of a packed core are 0. `pub` for the crate of codec order.
+// The filling bits of a packed core are 0. `pub` for the crates of codec order and of Up.
 pub fn core_fill_clear(core: &[u8], k: usize) -> bool
     requires { ⌜ (length (now core) ≡ octetsFor k) × (k < 65536) ⌝ }
     ensures { λ r. ⌜ r ≡ clear (8 * length (now (core .entry)) - k) (drop k (bits (now (core .entry)))) ⌝ }
