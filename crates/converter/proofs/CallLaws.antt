@@ -1,5 +1,5 @@
 -- The conversion's tests, one after the other: 11, what the reading refuses, 9 for what would be written, and 10. Assumes nothing.
-use mathlib.Core.Path.{_≡_, refl, sym, ap, ap₂, _∙_, subst}
+use mathlib.Core.Path.{_≡_, refl, sym, ap, ap₂, _∙_}
 use mathlib.Core.Bool.{Bool, true, false}
 use mathlib.Core.List.{List}
 use Prim.Native.Nat.{ℕ, zero, suc, _<_, _≤_}
@@ -7,22 +7,20 @@ use native.Mathlib.Omega.{arith}
 use lib.Dec.{eqb, leb}
 use lib.ListN.{length}
 use borrow.Author.Tests.{leb-true, le-leb, lt-leb, eqb-true, eq-eqb}
-use Rattle.bits.specs.Bits.{Octets}
 use Rattle.definitions.specs.Outcome.{refused, ok}
 use Rattle.definitions.specs.Frames.{Format, if1, if2, storage, Frame}
 use Rattle.definitions.specs.Reading.{formatNumbered, overwritten}
 use Rattle.definitions.proofs.Frames.{never}
 use Rattle.recordings.specs.Placed.{Placed, refusedAt, done, andThenAt, unlessAt}
-use Rattle.recordings.specs.Recordings.{limit, readRecording, writeRecording}
+use Rattle.recordings.specs.Recordings.{limit, readRecording}
 use Rattle.recordings.specs.Conversion.{converted, conversion, judged, convertCall, countedAt, lengthCall, bufferAfter}
-use Rattle.recordings.proofs.Claims.{reads-recordings}
 use Rattle.recordings.proofs.Scan.{not-done, not-refused}
 use Rattle.recording_reader.specs.Answers.{countsOf}
 use Rattle.recording_reader.specs.declared.Counts.{Counts}
 use Rattle.recording_reader.proofs.ScanLaws.{total}
 use Rattle.recordings.specs.Demand3.{formatNumber}
-use Rattle.recordings.proofs.Returning.{all-same}
-use Rattle.converter.specs.Output.{IntoBuffer, Same}
+use Rattle.recording_writer.specs.Output.{Same}
+use Rattle.converter.specs.Output.{IntoBuffer}
 
 -- ---- 11
 
@@ -191,11 +189,6 @@ module _ (from to request : ℕ) (s : List ℕ) (d : List ℕ) (f g : Format) (e
         }
 
 -- ---- the same format
-
-pub copied-whole : (f g : Format) (r : ℕ) (s : List ℕ) (xs : List Frame) → Octets s → f ≡ g → readRecording f s ≡ done xs → converted f g r xs ≡ s
-copied-whole f g r s xs o e h =
-    let w = reads-recordings .exactly f s xs o .0 h in
-    subst (λ g. converted f g r xs ≡ s) e (ap (writeRecording f) (all-same f r xs (w .valid)) ∙ sym (w .laid))
 
 number-is : (n : ℕ) (f : Format) → formatNumbered n ≡ ok f → n ≡ formatNumber f
 number-is zero f h = never 11 f h

@@ -1,14 +1,9 @@
--- What the conversion promises of its answer and of the output buffer, and what is asked where a recording is written.
+-- What the conversion promises of its answer and of the output buffer.
 use mathlib.Core.Path.{_≡_}
-use mathlib.Core.Bool.{Bool, true, false}
-use mathlib.Core.Logic.{_≢_}
 use mathlib.Core.List.{List}
-use Prim.Native.Nat.{ℕ, _≤_}
-use lib.ListN.{length}
-use Rattle.definitions.specs.Frames.{Format, Frame}
-use Rattle.recordings.specs.Placed.{Placed, done}
-use Rattle.recordings.specs.Recordings.{limit, readRecording}
-use Rattle.recordings.specs.Conversion.{converted, countedAt, bufferAfter}
+use Prim.Native.Nat.{ℕ}
+use Rattle.recordings.specs.Placed.{Placed}
+use Rattle.recordings.specs.Conversion.{countedAt, bufferAfter}
 use Rattle.recording_reader.specs.Answers.{countsOf}
 use Rattle.recording_reader.specs.declared.Counts.{Counts}
 
@@ -16,14 +11,3 @@ use Rattle.recording_reader.specs.declared.Counts.{Counts}
 pub record IntoBuffer (o : Placed (ℕ × List ℕ)) (d₀ d : List ℕ) (a : Counts) : Type 0 where
   pub answer : countsOf a ≡ countedAt o
   pub buffer : d ≡ bufferAfter o d₀
-
--- s is the recording of the frames xs, and what a conversion of them writes is within the limit and has room
-pub record Convertible (f g : Format) (r : ℕ) (s : List ℕ) (xs : List Frame) (out : List ℕ) : Type 0 where
-  pub read : readRecording f s ≡ done xs
-  pub within : length (converted f g r xs) ≤ limit
-  pub room : length (converted f g r xs) ≤ length out
-
--- whether two formats are the same
-pub record Same (same : Bool) (f g : Format) : Type 0 where
-  pub equal : same ≡ true → f ≡ g
-  pub unequal : same ≡ false → f ≢ g

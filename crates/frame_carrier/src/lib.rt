@@ -1,5 +1,5 @@
 // Carrying a valid frame over to another format, as the conversion does it: octets go over whole or shifted, many at a time. The source
-// is valid, so that behind its core there is nothing but zeros up to the frame's end. `carry_frame` is `pub` for the converter.
+// is valid, so that behind its core there is nothing but zeros up to the frame's end. `carry_frame` is `pub` for recording_writer.
 use frame::Format;
 use frame::table::class_a;
 use frame::table::core_octets;

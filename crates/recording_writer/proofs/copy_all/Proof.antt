@@ -1,12 +1,12 @@
--- `converter::copy_all` meets its contract: each turn copies one octet more. Assumes nothing.
+-- `recording_writer::copy_all` meets its contract: each turn copies one octet more. Assumes nothing.
 use mathlib.Core.Path.{_≡_, refl, ap, _∙_}
 use Prim.Native.Nat.{_-_, _≤_}
 use native.Mathlib.Omega.{arith}
 use lib.ListN.{length, getD, set, length-set}
 use lib.Seq.{paste, paste-zero}
-use Rattle.converter.proofs.CopyLaws.{paste-one, paste-whole}
-use Rattle.converter.proofs.copy_all.Statement.{statement}
-use Rattle.converter.proofs.copy_all.Tie as tie
+use Rattle.recording_writer.proofs.CopyLaws.{paste-one, paste-whole}
+use Rattle.recording_writer.proofs.copy_all.Statement.{statement}
+use Rattle.recording_writer.proofs.copy_all.Tie as tie
 
 abbrev Inv-loop : tie.InvT-loop
 Inv-loop s out₀ n i₀ out i = (i ≤ length s) × (length out ≡ length out₀) × (out ≡ paste out₀ 0 s i)

@@ -1,4 +1,4 @@
--- `converter::put_file_header` meets its contract: IF1 and IF2 have no file header. Assumes nothing.
+-- `recording_writer::put_file_header` meets its contract: IF1 and IF2 have no file header. Assumes nothing.
 use borrow.Author.Needs.{needs}
 use mathlib.Core.Path.{sym, ap, _∙_, subst}
 use Prim.Native.Nat.{_≤_}
@@ -6,8 +6,8 @@ use lib.ListN.{length}
 use Rattle.definitions.specs.Reading.{overwritten}
 use Rattle.recordings.specs.Recordings.{fileHeader}
 use Rattle.frame.specs.Answers.{formatOf}
-use Rattle.converter.proofs.put_file_header.Statement.{statement}
-use Rattle.converter.proofs.put_file_header.Tie as tie
+use Rattle.recording_writer.proofs.put_file_header.Statement.{statement}
+use Rattle.recording_writer.proofs.put_file_header.Tie as tie
 
 enum-told : tie.Need-enum-told
 enum-told c = search needs

@@ -1,4 +1,4 @@
--- `converter::write_frames` meets its contract: what is written and what is still to come make the conversion. Assumes nothing.
+-- `recording_writer::write_frames` meets its contract: what is written and what is still to come make the conversion. Assumes nothing.
 use borrow.Author.Needs.{needs}
 use mathlib.Core.Path.{_≡_, ap, _∙_}
 use mathlib.Core.Bool.{true}
@@ -10,9 +10,9 @@ use Rattle.definitions.specs.Frames.{known, octets}
 use Rattle.definitions.proofs.Tables.{sized}
 use Rattle.frame.specs.Answers.{formatOf}
 use Rattle.recordings.specs.Recordings.{limit}
-use Rattle.converter.proofs.WriteLaws.{header-room, header-long, Written, written-start, written-end, at-front, front-octets, front-room, part-type, part-carriable, part-written}
-use Rattle.converter.proofs.write_frames.Statement.{statement}
-use Rattle.converter.proofs.write_frames.Tie as tie
+use Rattle.recording_writer.proofs.WriteLaws.{header-room, header-long, Written, written-start, written-end, at-front, front-octets, front-room, part-type, part-carriable, part-written}
+use Rattle.recording_writer.proofs.write_frames.Statement.{statement}
+use Rattle.recording_writer.proofs.write_frames.Tie as tie
 
 abbrev Inv-loop : tie.InvT-loop
 Inv-loop f g r s out₀ at₀ to₀ out at to = Written (formatOf f) (formatOf g) r s out₀ out at to

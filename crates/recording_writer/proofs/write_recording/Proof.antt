@@ -1,13 +1,13 @@
--- `converter::write_recording` meets its contract: towards its own format a recording is what a conversion writes. Assumes nothing.
+-- `recording_writer::write_recording` meets its contract: towards its own format a recording is what a conversion writes. Assumes nothing.
 use borrow.Author.Needs.{needs}
 use mathlib.Core.Path.{sym, ap, _∙_}
 use native.Mathlib.Omega.{arith}
 use lib.ListN.{length}
 use Rattle.definitions.specs.Reading.{overwritten}
 use Rattle.frame.specs.Answers.{formatOf}
-use Rattle.converter.proofs.CallLaws.{copied-whole}
-use Rattle.converter.proofs.write_recording.Statement.{statement}
-use Rattle.converter.proofs.write_recording.Tie as tie
+use Rattle.recording_writer.proofs.CopyLaws.{copied-whole}
+use Rattle.recording_writer.proofs.write_recording.Statement.{statement}
+use Rattle.recording_writer.proofs.write_recording.Tie as tie
 
 copy-all-requires : tie.Need-copy-all-requires
 copy-all-requires c κs =
