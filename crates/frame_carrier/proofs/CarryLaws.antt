@@ -1,30 +1,16 @@
 -- A frame's octets in another format: the core's octets are windows of the core, and the octets in front of them are the header's. Assumes
 -- nothing.
 use mathlib.Core.Path.{_≡_, sym, ap, ap₂, _∙_}
-use mathlib.Core.Bool.{Bool, true, false}
+use mathlib.Core.Bool.{Bool, true}
 use mathlib.Core.List.{List, _∷_, _++_, append-assoc}
 use Prim.Native.Nat.{ℕ, zero, suc, _+_, _*_}
 use native.Mathlib.Omega.{arith}
-use lib.ListN.{length, drop, replicate, length-append, take-append-drop}
+use lib.ListN.{length, drop, length-append}
 use lib.Seq.{drop-drop}
-use Rattle.bits.specs.Bits.{num, bits, packs, pack, octetsFor}
-use Rattle.definitions.specs.Frames.{Format, Frame, known, coreBits, octets, header, layout, headerBits, fillBits}
-use Rattle.definitions.specs.Claims.{Begins}
+use Rattle.bits.specs.Bits.{num, packs, pack, octetsFor}
+use Rattle.definitions.specs.Frames.{Format, Frame, known, coreBits, octets, header, layout}
 use Rattle.definitions.proofs.Tables.{sized}
-use Rattle.definitions.proofs.Frames.{laid, length-header, after-header, bits-layout}
-use Rattle.frame_carrier.specs.Carriable.{behind}
-
--- ---- the source
-
--- behind the header stand the core, its filling, and what follows the frame
-pub source-core : (f : Format) (src : List ℕ) (x : Frame) (n : ℕ) → Begins f src x n
-    → drop (headerBits f (x .type)) (bits src) ≡ x .core ++ (replicate (fillBits f (x .type)) false ++ bits (drop n src))
-source-core f src x n b =
-    let z = replicate (fillBits f (x .type)) false ++ bits (drop n src) in
-    ap (λ s. drop (headerBits f (x .type)) (bits s)) (sym (take-append-drop n src) ∙ ap (λ s. s ++ drop n src) (b .laid))
-    ∙ ap (drop (headerBits f (x .type))) (bits-layout f x (drop n src) (b .valid)) ∙ after-header f x z
-
--- ---- the target
+use Rattle.definitions.proofs.Frames.{length-header}
 
 -- a frame's bits in a format
 abbrev pub frameBits : Format → Frame → List Bool

@@ -21,9 +21,9 @@ use Rattle.definitions.proofs.Tables.{sized, known-below, class-a-within}
 use Rattle.definitions.proofs.Frames.{length-header, judged, begins-read}
 use Rattle.recordings.specs.Conversion.{withModes, withoutModes, carried}
 use Rattle.frame_writer.proofs.WriterLaws.{firstBits, long-header, octets-three, second-octet}
-use Rattle.frame_carrier.specs.Carriable.{coreAt, behind, Carriable, CoreMoved}
+use Rattle.core_mover.specs.Carriable.{coreAt, behind, Carriable, CoreMoved}
 use Rattle.frame_carrier.proofs.CarryLaws.{frameBits, layout-packs, joined}
-use Rattle.frame_carrier.proofs.CoreLaws.{sizes, aligned-header, source-long, whole-stream}
+use Rattle.core_mover.proofs.CoreLaws.{sizes, aligned-header, source-long, whole-stream}
 
 -- ---- numbers of joined bits
 

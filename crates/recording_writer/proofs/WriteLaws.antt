@@ -20,7 +20,7 @@ use Rattle.recordings.specs.Conversion.{carried, converted}
 use Rattle.recordings.specs.Claims.{Every, first}
 use Rattle.recordings.proofs.Claims.{reads-recordings}
 use Rattle.recordings.proofs.Carried.{size-carried}
-use Rattle.frame_carrier.specs.Carriable.{Carriable}
+use Rattle.core_mover.specs.Carriable.{Carriable}
 
 -- the octets of frames that are carried over
 abbrev pub coming : (f g : Format) → ℕ → List Frame → List ℕ

@@ -9,7 +9,7 @@ use lib.Seq.{take-all, length-take-le}
 use Rattle.bits.specs.Bits.{num, bits}
 use Rattle.parity.specs.Crc.{crc}
 use Rattle.definitions.proofs.Tables.{class-a-within}
-use Rattle.frame_carrier.proofs.CoreLaws.{sizes}
+use Rattle.core_mover.proofs.CoreLaws.{sizes}
 use Rattle.frame_carrier.proofs.FrontLaws.{three-set, indication-small}
 use Rattle.frame_carrier.proofs.put_modes.Statement.{statement}
 use Rattle.frame_carrier.proofs.put_modes.Tie as tie

@@ -1,11 +1,11 @@
--- `frame_carrier::over_whole` meets its contract: the core's octets go over as they are. Assumes nothing.
+-- `core_mover::over_whole` meets its contract: the core's octets go over as they are. Assumes nothing.
 use borrow.Author.Needs.{needs}
 use mathlib.Core.Path.{refl}
 use Rattle.definitions.specs.Frames.{if2, octets}
 use Rattle.frame.specs.Answers.{formatOf}
-use Rattle.frame_carrier.proofs.CoreLaws.{over-asks, over-gives}
-use Rattle.frame_carrier.proofs.over_whole.Statement.{statement}
-use Rattle.frame_carrier.proofs.over_whole.Tie as tie
+use Rattle.core_mover.proofs.CoreLaws.{over-asks, over-gives}
+use Rattle.core_mover.proofs.over_whole.Statement.{statement}
+use Rattle.core_mover.proofs.over_whole.Tie as tie
 
 core-octets-requires : tie.Need-core-octets-requires
 core-octets-requires c κs = search needs

@@ -1,4 +1,4 @@
--- `frame_carrier::over_to_if2` meets its contract. Assumes nothing.
+-- `core_mover::over_to_if2` meets its contract. Assumes nothing.
 use borrow.Author.Needs.{needs}
 use mathlib.Core.Path.{refl}
 use mathlib.Core.Bool.{not}
@@ -6,9 +6,9 @@ use Prim.Native.Nat.{_-_}
 use lib.Dec.{eqb}
 use Rattle.definitions.specs.Frames.{if2, octets}
 use Rattle.frame.specs.Answers.{formatOf}
-use Rattle.frame_carrier.proofs.CoreLaws.{some-octet, moves-up, shifted-asks, shifted-gives}
-use Rattle.frame_carrier.proofs.over_to_if2.Statement.{statement}
-use Rattle.frame_carrier.proofs.over_to_if2.Tie as tie
+use Rattle.core_mover.proofs.CoreLaws.{some-octet, moves-up, shifted-asks, shifted-gives}
+use Rattle.core_mover.proofs.over_to_if2.Statement.{statement}
+use Rattle.core_mover.proofs.over_to_if2.Tie as tie
 
 core-octets-requires : tie.Need-core-octets-requires
 core-octets-requires c κs = search needs

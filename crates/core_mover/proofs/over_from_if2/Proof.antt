@@ -1,13 +1,13 @@
--- `frame_carrier::over_from_if2` meets its contract. Assumes nothing.
+-- `core_mover::over_from_if2` meets its contract. Assumes nothing.
 use borrow.Author.Needs.{needs}
 use mathlib.Core.Path.{refl}
 use Prim.Native.Nat.{_-_}
 use lib.Dec.{eqb}
 use Rattle.definitions.specs.Frames.{if2, coreOctets}
 use Rattle.frame.specs.Answers.{formatOf}
-use Rattle.frame_carrier.proofs.CoreLaws.{some-octet, moves-down, shifted-asks, shifted-gives}
-use Rattle.frame_carrier.proofs.over_from_if2.Statement.{statement}
-use Rattle.frame_carrier.proofs.over_from_if2.Tie as tie
+use Rattle.core_mover.proofs.CoreLaws.{some-octet, moves-down, shifted-asks, shifted-gives}
+use Rattle.core_mover.proofs.over_from_if2.Statement.{statement}
+use Rattle.core_mover.proofs.over_from_if2.Tie as tie
 
 if2-octets-requires : tie.Need-if2-octets-requires
 if2-octets-requires c κs = search needs

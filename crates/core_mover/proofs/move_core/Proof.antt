@@ -1,12 +1,12 @@
--- `frame_carrier::move_core` meets its contract: each pair of formats has its mover. Assumes nothing.
+-- `core_mover::move_core` meets its contract: each pair of formats has its mover. Assumes nothing.
 use borrow.Author.Needs.{needs}
 use mathlib.Core.Path.{_≡_, sym, _∙_, subst}
 use Rattle.definitions.specs.Frames.{Frame}
 use Rattle.frame.specs.Answers.{formatOf}
-use Rattle.frame_carrier.specs.Carriable.{Carriable, CoreMoved}
-use Rattle.frame_carrier.proofs.CoreLaws.{if2-is, if2-not}
-use Rattle.frame_carrier.proofs.move_core.Statement.{statement}
-use Rattle.frame_carrier.proofs.move_core.Tie as tie
+use Rattle.core_mover.specs.Carriable.{Carriable, CoreMoved}
+use Rattle.core_mover.proofs.CoreLaws.{if2-is, if2-not}
+use Rattle.core_mover.proofs.move_core.Statement.{statement}
+use Rattle.core_mover.proofs.move_core.Tie as tie
 
 is-if2-requires : tie.Need-is-if2-requires
 is-if2-requires c κs = search needs

@@ -8,8 +8,8 @@ use lib.ListN.{length, take, drop, getD, set, replicate, length-append, length-t
 use lib.Seq.{take-at, drop-drop, drop-append-le, drop-cons, set-at}
 use Rattle.bits.specs.Bits.{digits, num, bits, packs, Octets, copied}
 use Rattle.bits.proofs.BitLaws.{length-digits, length-packs, num-pad, bits-from, length-bits}
-use Rattle.frame_carrier.proofs.PackLaws.{drop-padded, packs-padded, packs-more, copied-octets}
-use Rattle.frame_carrier.specs.Carriable.{Ends}
+use Rattle.core_mover.proofs.PackLaws.{drop-padded, packs-padded, packs-more, copied-octets}
+use Rattle.core_mover.specs.Carriable.{Ends}
 
 module _ (src d₀ d₁ : List ℕ) (i a c j : ℕ) (w : List Bool) (z : ℕ) (r : List Bool) (o₀ : Octets d₀) (o₁ : Octets d₁)
     (ends : Ends src i a c w z r) (la : a < 8)

@@ -6,17 +6,18 @@ use mathlib.Core.List.{List, _++_}
 use Prim.Native.Nat.{ℕ, _+_, _-_, _*_, _<_, _≤_}
 use native.Mathlib.Omega.{arith}
 use lib.Dec.{eqb, leb}
-use lib.ListN.{length, take, drop, replicate, length-take, length-drop}
+use lib.ListN.{length, take, drop, replicate, length-take, length-drop, take-append-drop}
 use lib.Seq.{drop-drop, drop-append-le}
 use borrow.Author.Tests.{eqb-true, leb-true, le-leb}
 use Rattle.bits.specs.Bits.{bits, packs, one-if, Octets, copied}
 use Rattle.bits.proofs.BitLaws.{length-bits}
 use Rattle.bits.proofs.Tests.{and-left, and-right, every-below}
 use Rattle.definitions.specs.Frames.{Format, if1, if2, storage, Frame, known, coreBits, octets, coreOctets, headerBits, fillBits}
+use Rattle.definitions.specs.Claims.{Begins}
+use Rattle.definitions.proofs.Frames.{after-header, bits-layout}
 use Rattle.frame.proofs.TableLaws.{room}
-use Rattle.frame_carrier.specs.Carriable.{isIf2, coreAt, behind, Ends, Carriable}
-use Rattle.frame_carrier.proofs.PackLaws.{packs-padded, copied-octets}
-use Rattle.frame_carrier.proofs.CarryLaws.{source-core}
+use Rattle.core_mover.specs.Carriable.{isIf2, coreAt, behind, Ends, Carriable}
+use Rattle.core_mover.proofs.PackLaws.{packs-padded, copied-octets}
 
 -- ---- whether a format is IF2
 
@@ -95,6 +96,14 @@ behind-whole if2 w n = absurd (n refl)
 behind-whole storage w n = refl
 
 -- ---- the source
+
+-- behind the header stand the core, its filling, and what follows the frame
+source-core : (f : Format) (src : List ℕ) (x : Frame) (n : ℕ) → Begins f src x n
+    → drop (headerBits f (x .type)) (bits src) ≡ x .core ++ (replicate (fillBits f (x .type)) false ++ bits (drop n src))
+source-core f src x n b =
+    let z = replicate (fillBits f (x .type)) false ++ bits (drop n src) in
+    ap (λ s. drop (headerBits f (x .type)) (bits s)) (sym (take-append-drop n src) ∙ ap (λ s. s ++ drop n src) (b .laid))
+    ∙ ap (drop (headerBits f (x .type))) (bits-layout f x (drop n src) (b .valid)) ∙ after-header f x z
 
 module _ (f g : Format) (t : ℕ) (src out : List ℕ) (x : Frame) (h : t ≤ 9) (ex : x .type ≡ t) (c : Carriable f g src x out) where
   core-long : length (x .core) ≡ coreBits t
