@@ -45,16 +45,6 @@ packs-padded (suc c) w z r h =
     ap₂ _∷_ (num-padded 8 w z r (omega arith))
     (ap (packs c) (drop-padded 8 w z r (omega arith)) ∙ packs-padded c (drop 8 w) (z - (8 - length w)) r (omega (arith, length-drop 8 w)))
 
--- ---- from an octet on
-
-pub drop-packs : (e n : ℕ) (l : List Bool) → drop e (packs (e + n) l) ≡ packs n (drop (8 * e) l)
-unfolding packs
-drop-packs zero n l = ap (λ k. packs k l) (let e : 0 + n ≡ n = omega arith in e)
-drop-packs (suc e) n l =
-    ap (λ k. drop (suc e) (packs k l)) (let z : suc e + n ≡ suc (e + n) = omega arith in z)
-    ∙ drop-packs e n (drop 8 l)
-    ∙ ap (packs n) (drop-drop (8 * e) 8 l ∙ ap (λ k. drop k l) (let z : 8 + 8 * e ≡ 8 * suc e = omega arith in z))
-
 -- one octet more
 pub packs-more : (c : ℕ) (l : List Bool) → packs (c + 1) l ≡ packs c l ++ (num 8 (drop (8 * c) l) ∷ [])
 unfolding packs
