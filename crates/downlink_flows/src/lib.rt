@@ -1,4 +1,5 @@
-// What Down writes into the three sub-flows and says of a frame. What is `pub` is for the crate of Down: none is an entry.
+// What Down writes into the three sub-flows and says of a frame. What is `pub` is for the crates of Down and of the
+// link's answers: none is an entry.
 use frame::FrameHeader;
 use links::Combination;
 ghost use mathlib.Core.Path.{_≡_};

@@ -21,7 +21,7 @@ ghost use Rattle.frame.specs.Answers.{formatOf};
 ghost use Rattle.core_mover.specs.Carriable.{Carriable};
 
 // The last type that has a core.
-const LAST_CORE: u8 = 9;
+const LAST_CORE: u8 = frame::SID as u8;
 
 // The highest mode.
 const HIGHEST_MODE: u8 = frame::HIGHEST_MODE as u8;

@@ -1,1 +1,1 @@
-pub mod UpLaws
+mod UpLaws
