@@ -1,4 +1,6 @@
 // The answers that the levels of the C interface share (include/amrwb.h), and how the entries' answers become them. For the export crates.
+#![tactic(auto)]
+
 ghost use Rattle.std.specs.Prelude.{◌≡◌, length};
 ghost use Rattle.definitions.specs.Outcome.{refused};
 ghost use Rattle.definitions.specs.Reading.{read_call};
@@ -10,7 +12,7 @@ use frame::{Built, Reading, Refusal};
 use recording_reader::Counts;
 
 #[repr(C)]
-#[derive(Drop)]
+#[derive(Clone, Copy)]
 pub struct Answer {
     pub refusal: u64,
     pub frame: u64,
@@ -20,7 +22,7 @@ pub struct Answer {
 }
 
 #[repr(C)]
-#[derive(Drop)]
+#[derive(Clone, Copy)]
 pub struct FrameAnswer {
     pub refusal: u64,
     pub frame: u64,

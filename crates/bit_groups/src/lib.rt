@@ -1,5 +1,7 @@
 // Copies of octets and of bits by groups of 16, for a frame that is carried over to another format. `pub` for that crate; each asks what it
 // has shown.
+#![tactic(auto)]
+
 ghost use Rattle.std.specs.Prelude.{◌≡◌, ◌+◌, ◌*◌, ◌≤◌, ◌<◌, length, drop};
 ghost use Rattle.bits.specs.Bits.{bits, copied};
 

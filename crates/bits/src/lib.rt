@@ -1,6 +1,8 @@
 // Octets as bits: reading a bit or a field, and putting a run of bits in any place, with shifts and masks and whole octets at a
 // time. Every crate above packs and unpacks through this one: frames, sub-flows, payloads. Its public functions are `pub` for
 // those crates; each asks what their callers have shown.
+#![tactic(auto)]
+
 ghost use Rattle.std.specs.Prelude.{◌≡◌, ◌++◌, false, ◌+◌, ◌-◌, ◌*◌, ◌%◌, ◌≤◌, ◌<◌, ◌^◌, length, get_or, take, drop, replicate};
 ghost use Rattle.bits.specs.Claims.{PacksBits};
 ghost use Rattle.bits.specs.Bits.{bits, digits, num, pack, octets_for, copied};

@@ -1,5 +1,7 @@
 // Codec order: the codec's bits, one octet of 0 or 1 for each, put in the order of the core frame and back. `order_to_core` and
 // `order_to_row` are entries.
+#![tactic(auto)]
+
 ghost use Rattle.std.specs.Prelude.{◌≡◌, length};
 ghost use Rattle.definitions.specs.Reading.{counted};
 ghost use Rattle.definitions.specs.Order.{to_core_call, to_row_call};

@@ -1,5 +1,7 @@
 // One combination of a link's set judged, and a combination looked up in the set. What is `pub` is for the crates of the link's state, Up and
 // Down: none is an entry.
+#![tactic(auto)]
+
 ghost use Rattle.std.specs.Prelude.{◌≡◌, ◌&&◌, List, ◌≤◌, length, take};
 ghost use Rattle.links.specs.declared.Combination.{Combination};
 ghost use Rattle.links.specs.Sets.{link_type, combination_good, combinations, by_rfci, by_type, has, lookup};
@@ -15,7 +17,7 @@ const SID: u8 = frame::SID as u8;
 
 pub const NO_DATA: u64 = 15;
 
-#[derive(Drop)]
+#[derive(Clone, Copy)]
 pub enum Found {
     Is(Combination),
     Missing,

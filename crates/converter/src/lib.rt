@@ -1,4 +1,6 @@
 // Converting a recording among the three formats: everything is read, and only then written. `convert` and `convert_length` are entries.
+#![tactic(auto)]
+
 ghost use Rattle.std.specs.Prelude.{◌≡◌, ℕ, length};
 ghost use Rattle.recordings.specs.Conversion.{conversion, counted_at, convert_call, length_call};
 ghost use Rattle.frame.specs.Answers.{format_of};

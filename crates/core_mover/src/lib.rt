@@ -1,5 +1,7 @@
 // Moving the core of a valid frame to its place in another format: octets go over whole or shifted, many at a time. The source is valid, so
 // that behind its core there is nothing but zeros up to the frame's end. `move_core` and `core_at` are `pub` for frame_carrier.
+#![tactic(auto)]
+
 ghost use Rattle.std.specs.Prelude.{◌≡◌, Bool, ◌≢◌, List, ◌++◌, ℕ, ◌+◌, ◌<◌, ◌≤◌, length, take, drop};
 ghost use Rattle.bits.specs.Bits.{packs, one_if};
 ghost use Rattle.definitions.specs.Frames.{if2, Frame};

@@ -1,4 +1,6 @@
 // Down: an IF1 frame split into three sub-flows. `down` is an entry; `split_frame` and `forwarded_after` are `pub` for level three.
+#![tactic(auto)]
+
 ghost use Rattle.std.specs.Prelude.{◌≡◌, ◌≤◌, length};
 ghost use Rattle.bits.specs.Bits.{bits};
 ghost use Rattle.definitions.specs.Frames.{if1, octets, core_in};
@@ -14,14 +16,14 @@ use frame::{Format, FrameHeader, Reading, Refusal};
 use frame_reader::read_if1;
 use links::Link;
 
-#[derive(Drop)]
+#[derive(Clone, Copy)]
 pub enum Downlinked {
     Split(Subflows),
     Refused(Refusal),
 }
 
 // The answer, and the state after the call.
-#[derive(Drop)]
+#[derive(Clone, Copy)]
 pub struct DownAnswer {
     pub answer: Downlinked,
     pub link: Link,

@@ -1,5 +1,7 @@
 // What Down writes into the three sub-flows and says of a frame. What is `pub` is for the crates of Down and of the
 // link's answers: none is an entry.
+#![tactic(auto)]
+
 ghost use Rattle.std.specs.Prelude.{◌≡◌, Bool, true, cond, List, ◌++◌, ◌+◌, ◌*◌, ◌^◌, ◌<◌, ◌≤◌, eqb, length, take, drop};
 ghost use Rattle.bits.specs.Bits.{bits, pack, octets_for};
 ghost use Rattle.frame.specs.Answers.{frame_with};
@@ -14,14 +16,14 @@ use links::Combination;
 const SID: u8 = frame::SID as u8;
 
 // The request that is forwarded, if one is.
-#[derive(Drop)]
+#[derive(Clone, Copy)]
 pub enum Forward {
     Nothing,
     Request(u8),
 }
 
 // What Down says of a frame: FQC, RFCI, the octets of each sub-flow, and what is forwarded.
-#[derive(Drop)]
+#[derive(Clone, Copy)]
 pub struct Subflows {
     pub fqc: u8,
     pub rfci: u8,

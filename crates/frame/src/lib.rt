@@ -1,6 +1,8 @@
 // What a frame is to the code: formats, refusals, a frame's fields, the answers, and the table of types. The crates that read, build and
 // classify frames stand above it; its functions are `pub` for them. What an answer means is said in specs/Answers.antt, and what a
 // frame is in `definitions`.
+#![tactic(auto)]
+
 pub mod fields;
 pub mod table;
 
@@ -20,7 +22,7 @@ pub const SID_MODE_AT: usize = 36;
 pub const IF1_CORE_AT: usize = 3;
 
 // Document 01's formats 1, 2 and 3.
-#[derive(Drop)]
+#[derive(Clone, Copy)]
 pub enum Format {
     If1,
     If2,
@@ -28,14 +30,14 @@ pub enum Format {
 }
 
 // The format that a number names, if it is 1, 2 or 3.
-#[derive(Drop)]
+#[derive(Clone, Copy)]
 pub enum FormatFound {
     Is(Format),
     Unknown,
 }
 
 // Why a call refuses, in the order of document 01's numbers 1 to 17.
-#[derive(Drop)]
+#[derive(Clone, Copy)]
 pub enum Refusal {
     NoOctets,
     ReservedType,
@@ -57,7 +59,7 @@ pub enum Refusal {
 }
 
 // A frame's fields but for the core.
-#[derive(Drop)]
+#[derive(Clone, Copy)]
 pub struct FrameHeader {
     pub frame_type: u8,
     pub quality: u8,
@@ -67,14 +69,14 @@ pub struct FrameHeader {
 
 // A frame with a count of octets, or the refusal. The count is that of the frame's octets where more may follow, and that of the
 // packed core in the buffer where one frame is read.
-#[derive(Drop)]
+#[derive(Clone, Copy)]
 pub enum Reading {
     Frame(FrameHeader, usize),
     Refused(Refusal),
 }
 
 // How many octets were written, or the refusal.
-#[derive(Drop)]
+#[derive(Clone, Copy)]
 pub enum Built {
     Octets(usize),
     Refused(Refusal),

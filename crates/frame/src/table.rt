@@ -8,7 +8,7 @@ ghost use Rattle.frame.specs.Rows.{row_with, row_for, fill_word, core_word, if2_
 use crate::Format;
 
 // A row of the table: K, Class A, and the octets in IF1, IF2 and storage format.
-#[derive(Drop)]
+#[derive(Clone, Copy)]
 struct TypeRow {
     core: usize,
     class_a: usize,

@@ -1,4 +1,6 @@
 // Building one frame: judged first, then written. `build_if1`, `build_if2` and `build_storage` are entries.
+#![tactic(auto)]
+
 ghost use Rattle.std.specs.Prelude.{◌≡◌, ℕ, ◌-◌, ◌*◌, ◌<◌, length, drop};
 ghost use Rattle.bits.specs.Bits.{bits, octets_for, clear};
 ghost use Rattle.definitions.specs.Frames.{if1, if2, storage, frame_by, core_bits, fields_good};

@@ -1,5 +1,7 @@
 // Carrying a valid frame over to another format, as the conversion does it: its core is moved, and the octets in front of it are written.
 // `carry_frame` is `pub` for recording_writer.
+#![tactic(auto)]
+
 ghost use Rattle.std.specs.Prelude.{◌≡◌, cond, ◌∷◌, ◌++◌, ◌+◌, ◌*◌, ◌≤◌, leb, length, take, drop};
 ghost use Rattle.bits.specs.Bits.{num, bits};
 ghost use Rattle.parity.specs.Crc.{crc};

@@ -1,5 +1,7 @@
 // Reading one frame. The tests of document 01's order are in crate frame_tests; `judge` makes them in that order. `read_frame` is an entry;
 // the other `pub` functions are for the crates that go over recordings.
+#![tactic(auto)]
+
 ghost use Rattle.std.specs.Prelude.{◌≡◌, true, ◌<◌, ◌≤◌, length};
 ghost use Rattle.bits.specs.Bits.{bits};
 ghost use Rattle.definitions.specs.Frames.{if1, if2, storage, known, octets, core_in};

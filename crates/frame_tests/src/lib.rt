@@ -1,5 +1,7 @@
 // The tests of reading one frame, each of document 01's order one function whose answer equals the definition's test. The `pub` functions are
 // for frame_reader and the crates that go over recordings.
+#![tactic(auto)]
+
 ghost use Rattle.std.specs.Prelude.{◌≡◌, true, not, ◌&&◌, ◌||◌, cond, ◌+◌, ◌<◌, ◌≤◌, leb, length, drop};
 ghost use Rattle.bits.specs.Bits.{bits, num, clear};
 ghost use Rattle.definitions.specs.Frames.{known, octets, carries_modes, spare_before, spare_after, type_in, quality_in, core_in, frame_in, fill_clear, spare_clear, fields_good, crc_good};

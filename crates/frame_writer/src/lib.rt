@@ -1,4 +1,6 @@
 // Writing one frame. What is `pub` is for the crates that build frames, carry them over and join sub-flows: none is an entry.
+#![tactic(auto)]
+
 ghost use Rattle.std.specs.Prelude.{◌≡◌, Bool, true, false, List, ◌++◌, ℕ, ◌-◌, ◌<◌, ◌≤◌, length, drop};
 ghost use Rattle.bits.specs.Bits.{digits, pack};
 ghost use Rattle.definitions.specs.Frames.{if1, core_bits, octets, carries_modes, spare_before, layout};

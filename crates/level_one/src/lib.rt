@@ -1,5 +1,7 @@
 // Level one's C interface (include/amrwb.h): recordings and single frames in IF1 and IF2. Each function calls one entry and hands its answer
 // on as numbers. Every export is an entry.
+#![tactic(auto)]
+
 ghost use Rattle.std.specs.Prelude.{◌≡◌, ◌&&◌, leb, length};
 ghost use Rattle.definitions.specs.Frames.{if1, if2};
 ghost use Rattle.definitions.specs.Reading.{build_frame};

@@ -1,5 +1,7 @@
 // Level three's C interface (include/amrwb.h): level two's calls, and the link's, each of which calls one entry and hands its answer on as
 // numbers, as crates/link_answers/specs/Flat.antt says. Every export is an entry.
+#![tactic(auto)]
+
 ghost use Rattle.std.specs.Prelude.{◌≡◌, length};
 ghost use Rattle.definitions.specs.Frames.{if1, if2, storage};
 ghost use Rattle.definitions.specs.Reading.{read_call, build_frame};

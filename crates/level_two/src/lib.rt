@@ -1,5 +1,7 @@
 // Level two's C interface (include/amrwb.h): each function calls one entry and hands its answer on as numbers, as specs/Flat.antt says.
 // Every export is an entry.
+#![tactic(auto)]
+
 ghost use Rattle.std.specs.Prelude.{◌≡◌, length};
 ghost use Rattle.definitions.specs.Frames.{if1, if2, storage, core_octets};
 ghost use Rattle.definitions.specs.Reading.{read_call, build_frame};
@@ -24,7 +26,7 @@ use viewer::Shown;
 const SID: u8 = frame::SID as u8;
 
 #[repr(C)]
-#[derive(Drop)]
+#[derive(Clone, Copy)]
 pub struct ClassAnswer {
     pub refusal: u64,
     pub frame: u64,
@@ -33,7 +35,7 @@ pub struct ClassAnswer {
 }
 
 #[repr(C)]
-#[derive(Drop)]
+#[derive(Clone, Copy)]
 pub struct ViewAnswer {
     pub refusal: u64,
     pub frame: u64,
@@ -49,7 +51,7 @@ pub struct ViewAnswer {
 }
 
 #[repr(C)]
-#[derive(Drop)]
+#[derive(Clone, Copy)]
 pub struct ReportAnswer {
     pub refusal: u64,
     pub frame: u64,

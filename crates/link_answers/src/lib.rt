@@ -1,4 +1,6 @@
 // The answers of the link's calls as numbers (include/amrwb.h), as specs/Flat.antt says. For level three's export crate.
+#![tactic(auto)]
+
 ghost use Rattle.std.specs.Prelude.{◌≡◌};
 ghost use Rattle.link_state.specs.Answers.{verdict_of, moved_of};
 ghost use Rattle.downlink_flows.specs.Answers.{forward_of};
@@ -11,7 +13,7 @@ use link_state::{Moved, Verdict};
 use links::Link;
 
 #[repr(C)]
-#[derive(Drop)]
+#[derive(Clone, Copy)]
 pub struct LinkAnswer {
     pub refusal: u64,
     pub frame: u64,
@@ -20,7 +22,7 @@ pub struct LinkAnswer {
 }
 
 #[repr(C)]
-#[derive(Drop)]
+#[derive(Clone, Copy)]
 pub struct DownNumbers {
     pub refusal: u64,
     pub frame: u64,

@@ -1,4 +1,6 @@
 // The link's state: made, given a set, released and given a request. `fresh`, `assign`, `release` and `rate_command` are entries.
+#![tactic(auto)]
+
 ghost use Rattle.std.specs.Prelude.{◌≡◌, true, [], ◌+◌, ◌*◌, ◌≤◌, length, take, drop};
 ghost use Rattle.definitions.specs.Outcome.{ok, unless};
 ghost use Rattle.frame.specs.Answers.{number_of};
@@ -17,14 +19,14 @@ use links::{Combination, Link, NO_REQUEST, PLACES, RfcSet};
 const NUMBERS: usize = 5;
 
 // Whether a call was accepted.
-#[derive(Drop)]
+#[derive(Clone, Copy)]
 pub enum Verdict {
     Accepted,
     Refused(Refusal),
 }
 
 // The answer of a call, and the state after it.
-#[derive(Drop)]
+#[derive(Clone, Copy)]
 pub struct Moved {
     pub verdict: Verdict,
     pub link: Link,
@@ -91,7 +93,7 @@ fn is_apart(c: Combination, places: [Combination; 11], from: usize, to: usize) -
 }
 
 // Whether the combinations are good, and the places of their set if they are.
-#[derive(Drop)]
+#[derive(Clone, Copy)]
 struct Gathered {
     good: bool,
     places: [Combination; 11],

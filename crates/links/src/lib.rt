@@ -1,5 +1,7 @@
 // The link to a radio network as document 01 and TS 26.202 define it: its state by value, what each call answers, in specs/, and what is
 // claimed of the calls, each theorem as the contract of a function that computes nothing. The crates of the link's calls stand above it.
+#![tactic(auto)]
+
 ghost use Rattle.links.specs.Calls.{fresh_link, up_call, down_call};
 ghost use Rattle.links.specs.History.{link_step, Remembers, keeps_first, keeps_forwarded, records_refused, refuses_all};
 ghost use Rattle.links.specs.ThereAndBack.{ThereAndBack};
@@ -12,7 +14,7 @@ pub const NO_REQUEST: u16 = 15;
 
 // A RAB sub-flow combination (RFC), document 01's row: the frames of one type, and the bits of each sub-flow.
 #[repr(C)]
-#[derive(Drop)]
+#[derive(Clone, Copy)]
 pub struct Combination {
     pub rfci: u8,
     pub frame_type: u8,
@@ -23,7 +25,7 @@ pub struct Combination {
 
 // An RFC set (RFCS): the combinations in its first `count` places. No set is one without any.
 #[repr(C)]
-#[derive(Drop)]
+#[derive(Clone, Copy)]
 pub struct RfcSet {
     pub places: [Combination; 11],
     pub count: u32,
@@ -32,7 +34,7 @@ pub struct RfcSet {
 // A link's state: the set, the stored request (CMR), and the request that was last forwarded. It takes 96 octets: a host copies it by
 // whole groups of 16, and what comes in parts is slow to read back.
 #[repr(C)]
-#[derive(Drop)]
+#[derive(Clone, Copy)]
 pub struct Link {
     pub set: RfcSet,
     pub request: u16,

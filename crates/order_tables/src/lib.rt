@@ -1,5 +1,7 @@
 // The ordering tables of modes 0 to 4, and rows and cores put in order by them. `put_core` and `put_row` are `pub` for the crate of the
 // calls; they ask what the calls have judged.
+#![tactic(auto)]
+
 mod tables;
 
 ghost use Rattle.std.specs.Prelude.{◌≡◌};

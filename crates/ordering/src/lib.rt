@@ -1,5 +1,7 @@
 // Bits put in order by a table, and back: the codec's row, one octet of 0 or 1 for each bit, and the packed core. Its public functions are
 // `pub` for the crates of codec order; each asks what their callers have shown, of the table only that it is a permutation.
+#![tactic(auto)]
+
 ghost use Rattle.std.specs.Prelude.{◌≡◌, true, ◌+◌, ◌*◌, ◌≤◌, length, take, drop};
 ghost use Rattle.bits.specs.Bits.{num, bits, pack, octets_for};
 ghost use Rattle.definitions.specs.Reading.{overwritten};

@@ -1,5 +1,7 @@
 // The CRC of a frame's Class A bits, and what is claimed of it. For the frame crate, the converters and the link; a level's
 // library never calls it directly.
+#![tactic(auto)]
+
 ghost use Rattle.std.specs.Prelude.{◌≡◌, ◌*◌, ◌≤◌, Bool, true, false, List, [], ◌∷◌, ◌++◌, length, take, replicate};
 ghost use Rattle.bits.specs.Bits.{bits, digits, num};
 ghost use Rattle.parity.specs.Crc.{divide, crc};

@@ -1,4 +1,6 @@
 // The reception class of a frame, by its type, quality and STI. `reception_class` is an entry.
+#![tactic(auto)]
+
 ghost use Rattle.std.specs.Prelude.{◌≡◌};
 ghost use Rattle.definitions.specs.Reception.{speech_class, sid_class, class_of, reception_class};
 ghost use Rattle.reception.specs.Classes.{speech_of, sid_of, reception_of, classified_of};
@@ -11,13 +13,13 @@ const LAST_SPEECH: u64 = 8;
 
 const SPEECH_LOST: u64 = 14;
 
-#[derive(Drop)]
+#[derive(Clone, Copy)]
 pub enum SpeechClass {
     Good,
     Bad,
 }
 
-#[derive(Drop)]
+#[derive(Clone, Copy)]
 pub enum SidClass {
     First,
     Update,
@@ -25,7 +27,7 @@ pub enum SidClass {
 }
 
 // Document 01's speech, comfort, lost and empty.
-#[derive(Drop)]
+#[derive(Clone, Copy)]
 pub enum Reception {
     Speech(SpeechClass),
     Sid(SidClass),
@@ -33,7 +35,7 @@ pub enum Reception {
     NoData,
 }
 
-#[derive(Drop)]
+#[derive(Clone, Copy)]
 pub enum Classified {
     Class(Reception),
     Refused(Refusal),

@@ -1,5 +1,7 @@
 // Reading a recording: the tests in front of its frames, then the scan, a frame at a time. `validate` is an entry; the other `pub`
 // functions and `Counts` are for the crates that convert, report and view.
+#![tactic(auto)]
+
 ghost use Rattle.std.specs.Prelude.{◌≡◌, ℕ, ◌≤◌, length, take};
 ghost use Rattle.definitions.specs.Frames.{storage};
 ghost use Rattle.recordings.specs.Placed.{refused_at, done, and_then_at};
@@ -22,7 +24,7 @@ pub const FILE_HEADER: [u8; 9] = *b"#!AMR-WB\n";
 
 // The answer of a call over a recording: frames read, and octets written or to be written; or the refusal with the frame's number and its
 // first octet.
-#[derive(Drop)]
+#[derive(Clone, Copy)]
 pub enum Counts {
     Done(usize, usize),
     Refused(Refusal, usize, usize),

@@ -1,4 +1,6 @@
 // Writing a recording that was read, in the same format or another. `write_recording` is `pub` for converter: nothing here is an entry.
+#![tactic(auto)]
+
 ghost use Rattle.std.specs.Prelude.{◌≡◌, ◌≢◌, List, ◌≤◌, length};
 ghost use Rattle.definitions.specs.Frames.{Frame};
 ghost use Rattle.definitions.specs.Reading.{overwritten};

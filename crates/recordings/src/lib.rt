@@ -1,5 +1,7 @@
 // Whole recordings as document 01 defines them: what the crates that read and convert recordings cite, in specs/, and what is claimed of them,
 // each theorem as the contract of a function that computes nothing.
+#![tactic(auto)]
+
 ghost use Rattle.recordings.specs.Recordings.{read_recording};
 ghost use Rattle.recordings.specs.Conversion.{convert_call};
 ghost use Rattle.recordings.specs.Claims.{ReadsRecordings};

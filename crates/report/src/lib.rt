@@ -1,5 +1,7 @@
 // The report on a stored recording: how many octets and frames it has, and how many frames of each reception class. `report_recording` is the entry;
 // `Report` and `Reported` are `pub` for the C interface and for the program that prints them.
+#![tactic(auto)]
+
 ghost use Rattle.std.specs.Prelude.{◌≡◌, ◌≤◌, length};
 ghost use Rattle.definitions.specs.Frames.{storage};
 ghost use Rattle.recordings.specs.Placed.{refused_at, done, and_then_at};
@@ -20,7 +22,7 @@ use recording_reader::{has_file_header, header_octets};
 // The most octets that a report is made of.
 const REPORT_LIMIT: usize = 65536;
 
-#[derive(Drop)]
+#[derive(Clone, Copy)]
 pub struct Report {
     pub octets: usize,
     pub frames: usize,
@@ -31,7 +33,7 @@ pub struct Report {
 }
 
 // The report, or the refusal with the frame's number and its first octet.
-#[derive(Drop)]
+#[derive(Clone, Copy)]
 pub enum Reported {
     Counts(Report),
     Refused(Refusal, usize, usize),

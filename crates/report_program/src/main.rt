@@ -1,5 +1,7 @@
 // Reads a stored recording from standard input and prints the report on it. What is printed is proved, in `text`; what is read and what
 // reaches standard output is the system's.
+#![tactic(auto)]
+
 mod text;
 
 ghost use Rattle.std.specs.Prelude.{◌≡◌, ℕ, ◌≤◌, length};
@@ -8,7 +10,7 @@ ghost use Rattle.report_program.specs.declared.Input.TheVariants as input;
 use libc::{STDERR_FILENO, STDIN_FILENO, STDOUT_FILENO};
 
 // What came from standard input: so many octets, or an error.
-#[derive(Drop)]
+#[derive(Clone, Copy)]
 enum Input {
     Octets(usize),
     Failed,

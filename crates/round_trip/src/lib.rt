@@ -1,4 +1,6 @@
 // A round trip, two calls of the conversion over plain slices: demand 3's claim about round trips as the contract of code that runs.
+#![tactic(auto)]
+
 ghost use Rattle.round_trip.specs.Trip.{MakesTrip};
 
 use converter::convert;

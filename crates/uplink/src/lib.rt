@@ -1,4 +1,6 @@
 // Up: three sub-flows joined into an IF1 frame. `up` is an entry; `join_frame` is `pub` for level three.
+#![tactic(auto)]
+
 ghost use Rattle.std.specs.Prelude.{◌≡◌, Bool, true, cond, List, [], ◌++◌, ℕ, ◌+◌, ◌*◌, ◌^◌, ◌<◌, ◌≤◌, leb, length, take, drop};
 ghost use Rattle.bits.specs.Bits.{bits, pack, octets_for};
 ghost use Rattle.definitions.specs.Frames.{frame_by};
@@ -23,7 +25,7 @@ const HIGHEST_MODE: u8 = frame::HIGHEST_MODE as u8;
 const CORE_MOST: usize = 60;
 
 // The answer, and the state, which Up leaves.
-#[derive(Drop)]
+#[derive(Clone, Copy)]
 pub struct UpAnswer {
     pub answer: Built,
     pub link: Link,

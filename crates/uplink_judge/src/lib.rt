@@ -1,4 +1,6 @@
 // What Up judges before it writes: FQC and RFCI, the combination and the sub-flows. What is `pub` is for the crate of Up: none is an entry.
+#![tactic(auto)]
+
 ghost use Rattle.std.specs.Prelude.{◌≡◌, cond, ◌<◌, eqb};
 ghost use Rattle.links.specs.Calls.{subflow_good, subflows_good};
 ghost use Rattle.uplink_judge.specs.Judging.{picked, picked_of, Judges};
@@ -18,14 +20,14 @@ const BAD: u64 = 1;
 
 const RESERVED: u64 = 3;
 
-#[derive(Drop)]
+#[derive(Clone, Copy)]
 enum Picked {
     Is(Combination),
     Refused(Refusal),
 }
 
 // What is to be written: the frame of a combination that has a core, a frame of type 15 by its quality, or nothing.
-#[derive(Drop)]
+#[derive(Clone, Copy)]
 pub enum Judged {
     Core(Combination),
     Empty(u8),

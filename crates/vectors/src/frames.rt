@@ -5,7 +5,7 @@ use crate::print::{number, octets, refusal, text};
 // Octets of an IF1 frame before its core.
 const BEFORE_CORE: usize = 3;
 
-#[derive(Drop)]
+#[derive(Clone, Copy)]
 enum Table {
     Five,
     Six,

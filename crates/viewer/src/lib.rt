@@ -1,6 +1,8 @@
 // Viewing a recording, a frame a call (document 01, "Recordings and conversion", last paragraph). A `Viewer` carries the recording and the
 // place of the next frame; it is thin, and `next_at` does its work over a plain slice. `view_open` and `view_next` are entries: they hand the
 // place out and take it in by numbers. The other `pub` functions are for programs in Rattle.
+#![tactic(auto)]
+
 ghost use Rattle.std.specs.Prelude.{◌≡◌, length};
 ghost use Rattle.recordings.specs.Viewer.{open_call, view_call};
 ghost use Rattle.frame.specs.declared.Refusal.TheVariants.{ArgumentRange};
@@ -13,7 +15,7 @@ use frame_reader::{core_out, read_next};
 use recording_reader::{Counts, LIMIT, headed, header_octets};
 
 // A recording, its format's number, and the offset and the number of the next frame.
-#[derive(Drop)]
+#[derive(Clone, Copy)]
 pub struct Viewer<'a> {
     pub rec: &'a [u8],
     pub format: u64,
@@ -22,7 +24,7 @@ pub struct Viewer<'a> {
 }
 
 // A frame's fields, the end of the recording, or the refusal with the frame's number and its first octet.
-#[derive(Drop)]
+#[derive(Clone, Copy)]
 pub enum Shown {
     Frame(FrameHeader),
     End,
@@ -30,7 +32,7 @@ pub enum Shown {
 }
 
 // What a call hands out, and the number and the offset for the next call.
-#[derive(Drop)]
+#[derive(Clone, Copy)]
 pub struct Viewed {
     pub shown: Shown,
     pub number: u64,
