@@ -1,0 +1,22 @@
+-- `read_answer` meets its contract: the entry's promise, as numbers. Assumes nothing.
+use borrow.Author.Rules.{rules}
+use mathlib.Core.Path.{sym, ap, ◌∙◌}
+use Rattle.definitions.specs.Reading.{buffer_core}
+use Rattle.frame.specs.Answers.{reading_of}
+use Rattle.answers.specs.Flat.{frame_numbers}
+use Rattle.answers.proofs.read_answer.Goals as goal
+
+pub returns-in-Frame : goal.returns-in-Frame
+returns-in-Frame c =
+    let r = c.read_frame in
+    let core = buffer_core r.new.1.1.0 in
+    record { answer = ap frame_numbers (sym (ap (reading_of core) c.h-1.given.1) ∙ r.ensures.answer); buffer = r.ensures.buffer }
+
+pub returns-in-Refused : goal.returns-in-Refused
+returns-in-Refused c =
+    let r = c.read_frame in
+    let core = buffer_core r.new.1.1.0 in
+    record {
+      answer = c.refused_frame.ensures ∙ ap frame_numbers (sym (ap (reading_of core) c.e-1.given.1) ∙ r.ensures.answer);
+      buffer = r.ensures.buffer;
+    }

@@ -1,0 +1,27 @@
+-- `bits::with_field` meets its contract: the mask clears the field, and the shifted number goes into it. Assumes nothing.
+use borrow.Author.Rules.{rules}
+use native.Mathlib.Omega.{arith}
+use Rattle.bits.proofs.Masks.{one_shl, shifted_ones-le, put_code_is, put-digits, put-lt}
+use Rattle.bits.specs.Bits.{digits}
+use mathlib.Core.Path.{ap, ◌∙◌}
+use Prim.Native.Nat.{ℕ, ◌-◌}
+use lib.Pow.{pow_pos}
+use Rattle.bits.proofs.with_field.Goals as goal
+
+pub overflow_sub-m : goal.overflow_sub-m
+overflow_sub-m c = omega (arith, one_shl c.args.k (search rules), pow_pos c.args.k)
+
+pub overflow_sub-kept : goal.overflow_sub-kept
+overflow_sub-kept c = shifted_ones-le c.args.k (8 - c.args.a - c.args.k) (omega arith)
+
+pub overflow_cast-result-3 : goal.overflow_cast-result-3
+overflow_cast-result-3 c =
+    let k = c.args.k in
+    let b : ℕ = 8 - c.args.a - c.args.k in
+    record { fits = rw (put_code_is k b c.args.x c.args.v (omega arith) c.requires.1) (put-lt c.args.a k b c.args.x c.args.v (omega arith) c.requires.1 c.ranges.x.fits) }
+
+pub returns : goal.returns
+returns c =
+    let k = c.args.k in
+    let b : ℕ = 8 - c.args.a - c.args.k in
+    ap (digits 8) (put_code_is k b c.args.x c.args.v (omega arith) c.requires.1) ∙ put-digits c.args.a k b c.args.x c.args.v (omega arith) c.requires.1

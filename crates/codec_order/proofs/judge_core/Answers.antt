@@ -1,0 +1,51 @@
+-- `codec_order::judge_core` meets its contract: each test is the definition's, and they are made in its order. Assumes nothing.
+use mathlib.Core.Path.{◌≡◌, sym, ap, ◌∙◌}
+use Prim.Native.Nat.{◌-◌, ◌*◌}
+use native.Mathlib.Omega.{arith}
+use borrow.Author.Rules.{rules}
+use borrow.Author.Tests.{not-true, not-false}
+use lib.ListN.{length, drop}
+use Rattle.bits.specs.Bits.{clear, bits, octets_for}
+use Rattle.definitions.specs.Outcome.{ok}
+use Rattle.definitions.specs.Frames.{core_octets}
+use Rattle.definitions.specs.Reading.{core_fill_clear}
+use Rattle.codec_order.proofs.CallLaws.{core-mode_high, core_length, core_filling, core-unordered, row_short, row_fits}
+use Rattle.codec_order.proofs.judge_core.Goals as goal
+
+size-there : (c : tie.Else2) → let a = c.before.before.before.before.args in length a.core.now ≡ core_octets a.mode
+size-there c = c.if2.false ∙ ap octets_for c.before.core-bits.ensures.0
+
+fill_there : (c : tie.After-core-fill-clear) → let a = c.before.before.before.before.before.args in c.core-fill-clear.result ≡ core_fill_clear a.mode a.core.now
+fill_there c =
+    let s = c.before.before.before.before.before.args.core.now in
+    c.core-fill-clear.ensures ∙ ap (λ k. clear (8 * length s - k) (drop k (bits s))) c.before.before.core-bits.ensures.0
+
+pub returns-then-mode-gt-HIGHEST_MODE : goal.returns-then-mode-gt-HIGHEST_MODE
+returns-then-mode-gt-HIGHEST_MODE c =
+    let a = c.args in core-mode_high a.mode a.core.now a.room c.if-mode-gt-HIGHEST_MODE.true
+
+pub returns-then-core-k : goal.returns-then-core-k
+returns-then-core-k c =
+    let a = c.args in core_length a.mode a.core.now a.room c.if-mode-gt-HIGHEST_MODE.false (λ l. c.if-core-k.true (l ∙ ap octets_for (sym c.core_bits-k.ensures.0)))
+
+pub core_fill_clear-requires : goal.core_fill_clear-requires
+core_fill_clear-requires c = (c.if-core-k.false, omega (arith, c.core_bits-k.ensures.1))
+
+pub returns-then-not-core_fill_clear : goal.returns-then-not-core_fill_clear
+returns-then-not-core_fill_clear c =
+    let a = c.args in core_filling a.mode a.core.now a.room c.if-mode-gt-HIGHEST_MODE.false (size-there c) (sym (fill_there c) ∙ not-true _ c.if-not-core_fill_clear.true)
+
+pub returns-then-mode-gt-HIGHEST_ORDERED : goal.returns-then-mode-gt-HIGHEST_ORDERED
+returns-then-mode-gt-HIGHEST_ORDERED c =
+    let a = c.args in core-unordered a.mode a.core.now a.room c.if-mode-gt-HIGHEST_MODE.false (size-there c) (sym (fill_there c) ∙ not-false _ c.if-not-core_fill_clear.false) c.if-mode-gt-HIGHEST_ORDERED.true
+
+pub returns-then-room-k : goal.returns-then-room-k
+returns-then-room-k c =
+    let a = c.args in row_short a.mode a.core.now a.room c.if-mode-gt-HIGHEST_MODE.false (size-there c) (sym (fill_there c) ∙ not-false _ c.if-not-core_fill_clear.false) c.if-mode-gt-HIGHEST_ORDERED.false (omega (arith, c.core_bits-k.ensures.0))
+
+pub returns : goal.returns
+returns c =
+    let a = c.args in
+    let k = c.core_bits-k.ensures.0 in
+    ap ok k
+    ∙ row_fits a.mode a.core.now a.room c.if-mode-gt-HIGHEST_MODE.false (size-there c) (sym (fill_there c) ∙ not-false _ c.if-not-core_fill_clear.false) c.if-mode-gt-HIGHEST_ORDERED.false (omega arith)

@@ -1,0 +1,16 @@
+-- `combinations::rfci_in` meets its contract: what is left of the places tells the answer. Assumes nothing.
+use borrow.Author.Rules.{rules}
+use mathlib.Core.Path.{◌≡◌, refl, sym, ap, ◌∙◌}
+use Prim.Native.Nat.{◌≤◌, ◌-◌}
+use native.Mathlib.Omega.{arith}
+use lib.ListN.{length}
+use lib.Seq.{slice, slice_empty}
+use Rattle.links.specs.Sets.{combination, by_rfci, lookup}
+use Rattle.combinations.proofs.CombinationLaws.{lookup-found, lookup_next}
+use Rattle.combinations.proofs.rfci_in.Given as goal
+
+abbrev pub invariant-loop-i : goal.invariant-loop-i
+invariant-loop-i l = (l.i ≤ l.end) × (lookup by_rfci l.rfci (slice l.i l.end l.places) ≡ lookup by_rfci l.rfci (slice l.initial.i l.end l.places))
+
+abbrev pub decreases-loop-i : goal.decreases-loop-i
+decreases-loop-i l = l.end - l.i

@@ -1,0 +1,23 @@
+-- `converter::convert_length` meets its contract: 11, and then what is judged before the room. Assumes nothing.
+use borrow.Author.Rules.{rules}
+use mathlib.Core.Path.{sym, ◌∙◌}
+use Rattle.frame.specs.Answers.{format_of}
+use Rattle.recording_reader.proofs.CallLaws.{found_is, found_none}
+use Rattle.converter.proofs.CallLaws.{no_from, no_to, no_request_lem, length_passes}
+use Rattle.converter.proofs.convert_length.Goals as goal
+
+pub returns-in_default : goal.returns-in_default
+returns-in_default c =
+    let a = c.args in let nf = c.format_numbered in sym (no_from a.from a.to a.request a.s.now (found_none a.from nf.result nf.ensures c.enum_told-1.given.1))
+
+pub returns-in_default-format_numbered : goal.returns-in_default-format_numbered
+returns-in_default-format_numbered c =
+    let a = c.args in let nf = c.format_numbered in let f = c.f-1.given in let ng = c.format_numbered-2 in sym (no_to a.from a.to a.request a.s.now (format_of f.0.0) (found_is a.from nf.result f.0.0 nf.ensures f.1) (found_none a.to ng.result ng.ensures c.enum_told-in_default-format_numbered-1.given.1))
+
+pub returns-then-request-gt-HIGHEST_MODE : goal.returns-then-request-gt-HIGHEST_MODE
+returns-then-request-gt-HIGHEST_MODE c =
+    let a = c.args in let nf = c.format_numbered in let f = c.f-1.given in let ng = c.format_numbered-2 in let g = c.g-1.given in sym (no_request_lem a.from a.to a.request a.s.now (format_of f.0.0) (format_of g.0.0) (found_is a.from nf.result f.0.0 nf.ensures f.1) (found_is a.to ng.result g.0.0 ng.ensures g.1) c.if-request-gt-HIGHEST_MODE.true)
+
+pub returns : goal.returns
+returns c =
+    let a = c.args in let nf = c.format_numbered in let f = c.f-1.given in let ng = c.format_numbered-2 in let g = c.g-1.given in c.measure.ensures a.request ∙ sym (length_passes a.from a.to a.request a.s.now (format_of f.0.0) (format_of g.0.0) (found_is a.from nf.result f.0.0 nf.ensures f.1) (found_is a.to ng.result g.0.0 ng.ensures g.1) c.if-request-gt-HIGHEST_MODE.false)

@@ -1,0 +1,44 @@
+-- `frame_reader::core_out` meets its contract: the core is the run of K bits behind the header. Assumes nothing.
+use borrow.Author.Rules.{rules}
+use mathlib.Core.Path.{sym, ap₂, ◌∙◌}
+use Prim.Native.Nat.{◌+◌}
+use native.Mathlib.Omega.{arith}
+use lib.ListN.{take, drop, length-drop}
+use lib.Seq.{length-take-le}
+use mathlib.Core.List.{◌++◌}
+use Rattle.bits.specs.Bits.{bits, pack, octets_for}
+use Rattle.bits.proofs.BitLaws.{length-bits}
+use Rattle.definitions.specs.Frames.{core_bits, header_bits, core_in}
+use Rattle.frame.specs.Answers.{format_of}
+use Rattle.definitions.proofs.Tables.{known-below}
+use Rattle.frame.proofs.TableLaws.{room}
+use Rattle.frame_reader.proofs.CallLaws.{no_room, core-written}
+use Rattle.frame_reader.proofs.core_out.Goals as goal
+
+pub core_bits-k-requires : goal.core_bits-k-requires
+core_bits-k-requires c = known-below _ c.requires.0
+
+pub returns-then-core-m : goal.returns-then-core-m
+returns-then-core-m c =
+    let a = c.args in
+    let k = c.core_bits-k in
+    no_room a.h (core_in (format_of a.f) a.h.frame_type (bits a.s.now)) a.core.now k.result k.ensures.0 c.if-core-m.true
+
+pub put_run-requires : goal.put_run-requires
+put_run-requires c =
+    let p = room (format_of c.args.f) c.args.h.frame_type c.requires.0 in
+    (omega arith, omega arith, omega arith, omega arith)
+
+pub returns : goal.returns
+returns c =
+    let a = c.args in
+    let f = format_of a.f in
+    let t = a.h.frame_type in
+    let bs = bits a.s.now in
+    let k = c.core_bits-k in
+    let hb = c.header_bits in
+    let p = room f t c.requires.0 in
+    let lc = length-take-le (core_bits t) (drop (header_bits f t) bs) (omega (arith, length-drop (header_bits f t) bs, length-bits a.s.now)) in
+    core-written a.h (core_in f t bs) a.core.now k.result k.ensures.0 c.put_run.new.dst c.if-core-m.false
+    (lc ∙ sym k.ensures.0)
+    (c.put_run.ensures ∙ ap₂ (λ n m. pack (take n (drop m bs)) ++ drop (octets_for (0 + k.result)) a.core.now) k.ensures.0 hb.ensures.0)

@@ -1,0 +1,37 @@
+-- `frame_reader::read_frame` meets its contract: the format, the frame and its core are judged one after the other. Assumes nothing.
+use borrow.Author.Rules.{rules}
+use Rattle.frame_reader.proofs.CallLaws.{unknown_format, refused-frame, known-there, frame-out}
+use Rattle.frame_reader.proofs.read_frame.Goals as goal
+
+pub returns-in_default : goal.returns-in_default
+returns-in_default c =
+    let a = c.args in
+    unknown_format a.format a.s.now a.core.now c.format_numbered.result c.format_numbered.ensures c.enum_told-1.given.1
+
+pub returns-in_default-r : goal.returns-in_default-r
+returns-in_default-r c =
+    let a = c.args in
+    let n = c.format_numbered in
+    let f = c.f-1.given in
+    let r = c.read_single-r in
+    refused-frame a.format a.s.now a.core.now n.result n.ensures f.0.0 f.1 r.result r.ensures c.enum_told-in_default-r-1.given.0.0 c.enum_told-in_default-r-1.given.1
+
+pub core_out-requires : goal.core_out-requires
+core_out-requires c =
+    let a = c.args in
+    let n = c.format_numbered in
+    let f = c.f-1.given in
+    let r = c.read_single-r in
+    let h = c.r-1.given in
+    known-there a.format a.s.now a.core.now n.result n.ensures f.0.0 f.1 r.result r.ensures h.0.0 h.0.1.0 h.1
+
+pub returns : goal.returns
+returns c =
+    let a = c.args in
+    let n = c.format_numbered in
+    let f = c.f-1.given in
+    let r = c.read_single-r in
+    let h = c.r-1.given in
+    let o = c.core_out in
+    frame-out a.format a.s.now a.core.now n.result n.ensures f.0.0 f.1 r.result r.ensures h.0.0 h.0.1.0 h.1
+    o.new.1.1.1.0 o.result o.ensures

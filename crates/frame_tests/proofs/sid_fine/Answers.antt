@@ -1,0 +1,23 @@
+-- `frame_tests::sid_fine` meets its contract. Assumes nothing.
+use mathlib.Core.Path.{sym, ap, ◌∙◌, subst}
+use Prim.Native.Nat.{◌≤◌}
+use borrow.Author.Tests.{leb-true}
+use lib.ListN.{length, drop}
+use Rattle.bits.specs.Bits.{num, bits}
+use Rattle.definitions.specs.Frames.{octets, core_in}
+use Rattle.frame.specs.Answers.{format_of}
+use Rattle.frame_tests.proofs.sid_fine.Goals as goal
+
+pub returns-then-t-ne-SID : goal.returns-then-t-ne-SID
+returns-then-t-ne-SID c =
+    λ r e. absurd (c.if-t-ne-SID.true e)
+
+pub sid_mode-requires : goal.sid_mode-requires
+sid_mode-requires c =
+    subst (λ t. octets (format_of c.args.f) t ≤ length c.args.s.now) c.if-t-ne-SID.false c.requires
+
+pub returns : goal.returns
+returns c =
+    λ r e.
+    let a = c.args in
+    subst (λ m. m ≤ 8) (c.sid_mode.ensures ∙ ap (λ t. num 4 (drop 36 (core_in (format_of a.f) t (bits a.s.now)))) (sym e)) (leb-true _ _ r)

@@ -1,0 +1,46 @@
+-- `frame_writer::write_short` meets its contract: the header octet is stored, and the core put behind its header bits. Assumes nothing.
+use borrow.Author.Rules.{rules}
+use mathlib.Core.Path.{◌∙◌}
+use native.Mathlib.Omega.{arith}
+use lib.ListN.{length-set}
+use Rattle.frame.specs.Answers.{format_of}
+use Rattle.definitions.proofs.Tables.{known-below, sized}
+use Rattle.frame.proofs.TableLaws.{room}
+use Rattle.frame_writer.proofs.WriterLaws.{short_is}
+use Rattle.frame_writer.proofs.write_short.Goals as goal
+
+pub first_octet-requires : goal.first_octet-requires
+first_octet-requires c =
+    let w = c.requires.0 in
+    (known-below _ w.type_known, w.quality_bit)
+
+pub bounds-out-0 : goal.bounds-out-0
+bounds-out-0 c =
+    let w = c.requires.0 in
+    let z = (sized (format_of c.args.f) c.args.h.frame_type w.type_known).some-octet in
+    omega (arith, w.room)
+
+pub core_bits-requires : goal.core_bits-requires
+core_bits-requires c = known-below _ c.requires.0.type_known
+
+pub put_run-requires : goal.put_run-requires
+put_run-requires c =
+    let w = c.requires.0 in
+    let p = room (format_of c.args.f) c.args.h.frame_type w.type_known in
+    let l = length-set c.args.out.now 0 c.first_octet.result in
+    (omega (arith, w.core_there), omega (arith, w.room), omega (arith, w.core_near), omega arith)
+
+pub shape_of-out : goal.shape_of-out
+shape_of-out c =
+    let a = c.args in
+    c.put_run.auto.1.1.1.0 ∙ length-set a.out.now 0 c.first_octet.result
+
+pub returns : goal.returns
+returns c =
+    let a = c.args in
+    let o = c.first_octet in
+    let k = c.core_bits in
+    let hb = c.header_bits in
+    let r = c.put_run in
+    short_is (format_of a.f) a.h a.src.now a.from a.out.now r.new.1.1.1.0 o.result k.result hb.result c.requires.0 c.requires.1
+    o.ensures k.ensures.0 hb.ensures.0 r.ensures

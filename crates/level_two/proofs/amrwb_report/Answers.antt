@@ -1,0 +1,17 @@
+-- `amrwb_report` meets its contract: the entry's promise, as numbers. Assumes nothing.
+use borrow.Author.Rules.{rules}
+use mathlib.Core.Path.{sym, ap, ◌∙◌}
+use Rattle.recordings.specs.Placed.{refused_at}
+use Rattle.report.specs.Answers.{reported_of}
+use Rattle.level_two.specs.Flat.{report_numbers}
+use Rattle.level_two.proofs.amrwb_report.Goals as goal
+
+pub returns-in-Counts : goal.returns-in-Counts
+returns-in-Counts c =
+    let r = c.report_recording in ap report_numbers (sym (ap reported_of c.c-1.given.1) ∙ r.ensures)
+
+pub returns-in-Refused : goal.returns-in-Refused
+returns-in-Refused c =
+    let r = c.report_recording in
+    let g = c.e-1.given in
+    ap (λ n. report_numbers (refused_at n g.0.1.0 g.0.1.1.0)) c.refusal_number.ensures ∙ ap report_numbers (sym (ap reported_of g.1) ∙ r.ensures)

@@ -1,0 +1,16 @@
+-- `amrwb_view_open` meets its contract: the entry's promise, as numbers. Assumes nothing.
+use borrow.Author.Rules.{rules}
+use mathlib.Core.Path.{sym, ap, ◌∙◌}
+use Rattle.recording_reader.specs.Answers.{counts_of}
+use Rattle.level_two.specs.Flat.{unshown, open_numbers}
+use Rattle.level_two.proofs.amrwb_view_open.Goals as goal
+
+pub returns-in-Done : goal.returns-in-Done
+returns-in-Done c =
+    c.unshown.ensures ∙ ap open_numbers (sym (ap counts_of c.number-1.given.1) ∙ c.view_open.ensures)
+
+pub returns-in-Refused : goal.returns-in-Refused
+returns-in-Refused c =
+    let g = c.e-1.given in
+    c.unshown-in-Refused.ensures ∙ ap (λ n. unshown n g.0.1.0 g.0.1.1.0 0 0 0) c.refusal_number.ensures
+    ∙ ap open_numbers (sym (ap counts_of g.1) ∙ c.view_open.ensures)

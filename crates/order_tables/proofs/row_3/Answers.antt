@@ -1,0 +1,17 @@
+-- `order_tables::row_3` meets its contract: the table is the one of mode 3. Assumes nothing.
+use mathlib.Core.Path.{refl}
+use borrow.Author.Rules.{rules}
+use Rattle.definitions.specs.Tables.{table3}
+use Rattle.definitions.specs.Order.{order_table}
+use Rattle.order_tables.proofs.ModeLaws.{row_asked, row_put}
+use Rattle.order_tables.proofs.row_3.Goals as goal
+
+pub row_by-requires : goal.row_by-requires
+unfolding order_table table3
+row_by-requires c =
+    row_asked 3 _ refl c.args.core.now c.args.row.now c.requires
+
+pub returns : goal.returns
+unfolding order_table table3
+returns c =
+    row_put 3 _ refl c.args.core.now c.args.row.now _ c.requires c.row_by.ensures

@@ -1,0 +1,10 @@
+-- `recording_reader::headed` meets its contract: IF1 and IF2 have no file header. Assumes nothing.
+use mathlib.Core.Path.{sym, ap, ◌∙◌}
+use Rattle.recordings.specs.Recordings.{headed}
+use Rattle.frame.specs.Answers.{format_of}
+use borrow.Author.Rules.{rules}
+use Rattle.recording_reader.proofs.headed.Goals as goal
+
+pub returns-in-Storage : goal.returns-in-Storage
+returns-in-Storage c =
+    c.has_file_header.ensures ∙ ap (λ f. headed (format_of f) c.args.s.now) (sym c.enum_told-in-Storage-1.given.1)

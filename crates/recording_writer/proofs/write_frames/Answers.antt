@@ -1,0 +1,106 @@
+-- `recording_writer::write_frames` meets its contract: what is written and what is still to come make the conversion. Assumes nothing.
+use borrow.Author.Rules.{rules}
+use mathlib.Core.Path.{◌≡◌, ap, ◌∙◌}
+use mathlib.Core.Bool.{true}
+use Prim.Native.Nat.{ℕ, ◌+◌, ◌-◌, ◌≤◌}
+use native.Mathlib.Omega.{arith}
+use lib.ListN.{length, drop, length-drop}
+use lib.Seq.{length-take-le}
+use Rattle.definitions.specs.Frames.{known, octets}
+use Rattle.definitions.proofs.Tables.{sized}
+use Rattle.frame.specs.Answers.{format_of}
+use Rattle.recordings.specs.Recordings.{limit}
+use Rattle.recording_writer.proofs.WriteLaws.{header-room, header_long, Written, written_start, written-end, at_front, front_octets, front_room, part_type, part_carriable, part_written}
+use Rattle.recording_writer.proofs.write_frames.Goals as goal
+
+-- the frame at hand: its type, and the places behind it
+type_is : (c : tie.After-type-in invariant-loop decreases-loop) → c.type-in.result ≡ (at_front c.before.before.before.loop.invariant c.before.before.loop-test.true).x.type
+type_is c = c.type-in.ensures ∙ part_type c.before.before.before.loop.invariant c.before.before.loop-test.true
+
+type-there : (c : tie.After-type-in invariant-loop decreases-loop) → known c.type-in.result ≡ true
+type-there c = ap known (type_is c) ∙ (at_front c.before.before.before.loop.invariant c.before.before.loop-test.true).valid.type_known
+
+room-there : (c : tie.After-type-in invariant-loop decreases-loop) → c.before.before.before.loop.to ≤ length c.before.before.before.loop.out
+room-there c = omega (arith, (front_room c.before.before.before.loop.invariant c.before.before.loop-test.true).0)
+
+at_there : (c : tie.After-type-in invariant-loop decreases-loop) (m : ℕ) → m ≡ octets (format_of c.before.before.before.before.before.before.before.before.before.before.before.args.f) c.type-in.result
+    → (1 ≤ m) × (c.before.before.before.loop.at + m ≤ length c.before.before.before.before.before.before.before.before.before.before.before.args.s.now)
+at_there c m e =
+    let f = format_of c.before.before.before.before.before.before.before.before.before.before.before.args.f in
+    let w = c.before.before.before.loop.invariant in
+    let l = c.before.before.loop-test.true in
+    let x = (at_front w l).x in
+    let q : m ≡ octets (format_of c.before.before.before.before.before.before.before.before.before.before.before.args.f) (at_front c.before.before.before.loop.invariant c.before.before.loop-test.true).x.type = e ∙ ap (octets f) (type_is c) in
+    (omega (arith, (sized f x.type (at_front w l).valid.type_known).some-octet), omega (arith, front_octets w l, w.within))
+
+to_there : (c : tie.After-type-in invariant-loop decreases-loop) (m : ℕ) → m ≡ octets (format_of c.before.before.before.before.before.before.before.before.before.before.before.args.g) c.type-in.result
+    → c.before.before.before.loop.to + m ≤ limit
+to_there c m e =
+    let q : m ≡ octets (format_of c.before.before.before.before.before.before.before.before.before.before.before.args.g) (at_front c.before.before.before.loop.invariant c.before.before.loop-test.true).x.type = e ∙ ap (octets (format_of c.before.before.before.before.before.before.before.before.before.before.before.args.g)) (type_is c) in
+    omega (arith, (front_room c.before.before.before.loop.invariant c.before.before.loop-test.true).1)
+
+pub put_file_header-to-requires : goal.put_file_header-to-requires
+put_file_header-to-requires c =
+    let p = c.requires.2 in header-room (format_of c.args.f) (format_of c.args.g) c.args.r p.0 c.args.out.now p.1.room
+
+pub loop-at-init : goal.loop-at-init
+loop-at-init c =
+    let a = c.args in let p = c.requires.2 in written_start (format_of a.f) (format_of a.g) a.r a.s.now a.out.now _ p.0 _ _ (λ i. (c.type_inv.s i).fits) p.1.read p.1.within p.1.room c.header_octets-at.ensures.0 c.put_file_header-to.ensures.0 c.put_file_header-to.ensures.1
+
+pub type_in-t-requires : goal.type_in-t-requires
+type_in-t-requires c =
+    let a = c.args in
+    omega (arith, length-take-le (length a.s.now - c.loop-at.at) (drop c.loop-at.at a.s.now) (omega (arith, length-drop c.loop-at.at a.s.now)))
+
+pub slice_bounds-carry_frame-count : goal.slice_bounds-carry_frame-count
+slice_bounds-carry_frame-count c =
+    room-there c
+-- TODO no such goal: part-carry-frame-start : tie.Need-slice-bounds-carry-frame-start invariant-loop decreases-loop
+part-carry-frame-start c =
+    room-there c
+
+pub carry_frame-requires : goal.carry_frame-requires
+carry_frame-requires c =
+    let w = c.loop-at.invariant in
+    (c.requires.1, ((at_front w c.loop-at-test.true).x, part_carriable w c.loop-at-test.true c.requires.0))
+
+pub octets_by_bits-at-requires : goal.octets_by_bits-at-requires
+octets_by_bits-at-requires c =
+    type-there c
+
+pub overflow_add-at : goal.overflow_add-at
+overflow_add-at c =
+    omega (arith, at_there c _ c.octets_by_bits-at.ensures)
+
+pub octets_by_bits-to-requires : goal.octets_by_bits-to-requires
+octets_by_bits-to-requires c =
+    type-there c
+
+pub overflow_add-to : goal.overflow_add-to
+overflow_add-to c =
+    omega (arith, to_there c _ c.octets_by_bits-to.ensures)
+
+pub loop-at-smaller : goal.loop-at-smaller
+loop-at-smaller c =
+    omega (arith, at_there c _ c.octets_by_bits-at.ensures)
+
+pub loop-at-preserved : goal.loop-at-preserved
+loop-at-preserved c =
+    let w = c.loop-at.invariant in
+    let l = c.loop-at-test.true in
+    part_written w l c.carry_frame.new.out c.type_in-t.result c.octets_by_bits-at.result c.octets_by_bits-to.result
+    (c.type_in-t.ensures ∙ part_type w l) c.octets_by_bits-at.ensures c.octets_by_bits-to.ensures
+    (c.carry_frame.ensures (at_front w l).x (part_carriable w l c.requires.0))
+
+pub shape_of-out : goal.shape_of-out
+shape_of-out c =
+    let a = c.args in
+    let p = c.requires.2 in
+    c.loop-at.invariant.as_long ∙ header_long (format_of a.f) (format_of a.g) a.r p.0 a.out.now _ p.1.room c.put_file_header-to.ensures.1
+
+pub returns : goal.returns
+returns c =
+    λ xs p.
+    let a = c.args in
+    written-end (format_of a.f) (format_of a.g) a.r a.s.now a.out.now _ c.loop-at.out c.loop-at.at c.loop-at.to xs (omega arith) c.loop-at.invariant
+    c.put_file_header-to.ensures.1 p.read

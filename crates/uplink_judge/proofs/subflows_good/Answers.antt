@@ -1,0 +1,20 @@
+-- `uplink_judge::subflows_good` meets its contract: the three are judged in turn. Assumes nothing.
+use borrow.Author.Rules.{rules}
+use mathlib.Core.Path.{sym, ◌∙◌}
+use borrow.Author.Tests.{not-true, not-false}
+use Rattle.uplink_judge.proofs.JudgeLaws.{first_wrong, second_wrong, third_tells}
+use Rattle.uplink_judge.proofs.subflows_good.Goals as goal
+
+pub returns-then-not-subflow_good : goal.returns-then-not-subflow_good
+returns-then-not-subflow_good c = c.args in first_wrong a.c a.s1.now a.s2.now a.s3.now (sym c.subflow_good.ensures ∙ not-true _ c.if-not-subflow_good.true)
+
+pub returns-then-not-subflow_good-2 : goal.returns-then-not-subflow_good-2
+returns-then-not-subflow_good-2 c =
+    let a = c.args in
+    second_wrong a.c a.s1.now a.s2.now a.s3.now (sym c.subflow_good.ensures ∙ not-false _ c.if-not-subflow_good.false) (sym c.subflow_good-2.ensures ∙ not-true _ c.if-not-subflow_good-2.true)
+
+pub returns : goal.returns
+returns c =
+    let a = c.args in
+    c.subflow_good-3.ensures
+    ∙ third_tells a.c a.s1.now a.s2.now a.s3.now (sym c.subflow_good.ensures ∙ not-false _ c.if-not-subflow_good.false) (sym c.subflow_good-2.ensures ∙ not-false _ c.if-not-subflow_good-2.false)

@@ -1,0 +1,11 @@
+-- `print_bits` is safe and ends: every turn comes one bit nearer to the last. Assumes nothing.
+use Prim.Native.Nat.{◌-◌}
+use Prim.{Unit}
+use borrow.Author.Rules.{rules}
+use Rattle.vectors.proofs.frames.print_bits.Given as goal
+
+abbrev pub invariant-loop-j : goal.invariant-loop-j
+invariant-loop-j l = Unit
+
+abbrev pub decreases-loop-j : goal.decreases-loop-j
+decreases-loop-j l = l.bits - l.j

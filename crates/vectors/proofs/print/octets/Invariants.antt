@@ -1,0 +1,12 @@
+-- `octets` is safe and ends: every turn comes one octet nearer to the slice's end. Assumes nothing.
+use Prim.Native.Nat.{◌-◌}
+use Prim.{Unit}
+use lib.ListN.{length}
+use borrow.Author.Rules.{rules}
+use Rattle.vectors.proofs.print.octets.Given as goal
+
+abbrev pub invariant-loop-i : goal.invariant-loop-i
+invariant-loop-i l = Unit
+
+abbrev pub decreases-loop-i : goal.decreases-loop-i
+decreases-loop-i l = length l.s - l.i
