@@ -10,7 +10,7 @@ use Rattle.bit_groups.proofs.copy_by_five.Goals as goal
 pub returns-then-m-le32 : goal.returns-then-m-le32
 returns-then-m-le32 c =
     let a = c.args in
-    two_groups a.src.now a.dst.now _ (8 * a.i + 5) a.j a.m (omega arith) (omega arith) (omega arith) c.group_shifted.auto.1.1.1.0
+    two_groups a.src.now a.dst.now _ (8 * a.i + 5) a.j a.m (omega arith) (omega arith) (omega arith) c.group_shifted.auto.dst
     _ (8 * (a.i + a.m - 16) + 5) (a.j + a.m - 16) (omega arith) (omega arith) (omega arith) c.group_shifted.ensures c.group_shifted-then-m-le32.ensures
 
 pub returns : goal.returns
@@ -18,6 +18,6 @@ returns c =
     let a = c.args in
     let second = c.group_shifted-2 in
     let third = c.group_shifted-3 in
-    four_groups a.src.now a.dst.now _ (8 * a.i + 5) a.j a.m (omega arith) (omega arith) (omega arith) c.group_shifted.auto.1.1.1.0
+    four_groups a.src.now a.dst.now _ (8 * a.i + 5) a.j a.m (omega arith) (omega arith) (omega arith) c.group_shifted.auto.dst
     _ _ _ (8 * (a.i + 16) + 5) (a.j + 16) (8 * (a.i + a.m - 32) + 5) (a.j + a.m - 32) (8 * (a.i + a.m - 16) + 5) (a.j + a.m - 16) (omega arith) (omega arith) (omega arith) (omega arith) (omega arith) (omega arith) (omega arith) (omega arith)
-    second.auto.1.1.1.0 (third.auto.1.1.1.0 ∙ second.auto.1.1.1.0) c.group_shifted.ensures second.ensures third.ensures c.group_shifted-4.ensures
+    second.auto.dst (third.auto.dst ∙ second.auto.dst) c.group_shifted.ensures second.ensures third.ensures c.group_shifted-4.ensures

@@ -7,7 +7,7 @@ use Rattle.links.specs.Sets.{combination_good}
 use Rattle.combinations.proofs.has_rfci.Goals as goal
 
 pub returns-then-c-rfci : goal.returns-then-c-rfci
-returns-then-c-rfci c = c.args in c.combination_good.ensures ∙ sym (ap (λ b. b && combination_good a.c) (eq-eqb a.c.rfci a.rfci c.if-c-rfci.true))
+returns-then-c-rfci c = let a = c.args in c.combination_good.ensures ∙ sym (ap (λ b. b && combination_good a.c) (eq-eqb a.c.rfci a.rfci c.if-c-rfci.true))
 
 pub returns : goal.returns
-returns c = c.args in sym (ap (λ b. b && combination_good a.c) (ne_eqb a.c.rfci a.rfci c.if-c-rfci.false))
+returns c = let a = c.args in sym (ap (λ b. b && combination_good a.c) (ne_eqb a.c.rfci a.rfci c.if-c-rfci.false))

@@ -19,7 +19,7 @@ read c =
     ap (reading_of (λ t. core_in if1 t (bits a.frame.now))) (sym c.before.h.given.1) ∙ c.before.before.before.read-if1.ensures
 
 pub returns-then-link-eq0 : goal.returns-then-link-eq0
-returns-then-link-eq0 c = c.args in refused_into _ a.s1.now a.s2.now a.s3.now _ (no_set a.link a.frame.now _ _ _ c.if-link-eq0.true)
+returns-then-link-eq0 c = let a = c.args in refused_into _ a.s1.now a.s2.now a.s3.now _ (no_set a.link a.frame.now _ _ _ c.if-link-eq0.true)
 
 pub split_read-requires : goal.split_read-requires
 split_read-requires c = (read_known true if1 _ _ _ (sym (read c))).1

@@ -4,7 +4,7 @@ use Rattle.downlink_flows.proofs.FlowLaws.{short1, short2, last_tells}
 use Rattle.downlink_flows.proofs.is_roomy.Goals as goal
 
 pub returns-then-n1-octets_for : goal.returns-then-n1-octets_for
-returns-then-n1-octets_for c = c.args in short1 a.c a.n1 a.n2 a.n3 c.octets_for.result c.octets_for.ensures c.if-n1-octets_for.true
+returns-then-n1-octets_for c = let a = c.args in short1 a.c a.n1 a.n2 a.n3 c.octets_for.result c.octets_for.ensures c.if-n1-octets_for.true
 
 pub returns-then-n2-octets_for : goal.returns-then-n2-octets_for
 returns-then-n2-octets_for c =

@@ -18,7 +18,7 @@ returns-in-Frame c =
     let h = c.h-1.given in
     let w = c.write_frame in
     built_frame (format_of a.f) a.t a.q a.i a.r a.core.now a.out.now j.result j.ensures h.0.0 h.0.1.0 h.1
-    w.new.1.1.1.1.0 w.ensures
+    w.new.out w.ensures
 
 pub returns-in-Refused : goal.returns-in-Refused
 returns-in-Refused c =

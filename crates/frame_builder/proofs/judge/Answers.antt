@@ -85,10 +85,10 @@ returns-then-room-n c =
     (sym (fill_there c) ∙ not-false _ c.if-not-core_fill_clear.false) (good-there c) n.result n.ensures.0 c.if-room-n.true
 
 pub overflow_cast-h-3 : goal.overflow_cast-h-3
-overflow_cast-h-3 c = modes_fit _ _ (good-there c) in omega arith
+overflow_cast-h-3 c = let g = modes_fit _ _ (good-there c) in omega arith
 
 pub overflow_cast-h-4 : goal.overflow_cast-h-4
-overflow_cast-h-4 c = modes_fit _ _ (good-there c) in omega arith
+overflow_cast-h-4 c = let g = modes_fit _ _ (good-there c) in omega arith
 
 pub returns : goal.returns
 returns c =

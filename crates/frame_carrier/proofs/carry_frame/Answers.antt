@@ -50,7 +50,7 @@ put_modes-requires c =
     let q = c.requires.1 in
     let ff = front_fields (format_of a.f) a.src.now q.0 (octets (format_of a.f) q.0.type) q.1.begins in
     let et = c.type_in-t.ensures ∙ ff.0 in
-    (c.if-t-gt-LAST_CORE.false, c.requires.0, omega (arith, if1_room (format_of a.f) (format_of a.g) a.src.now a.out.now q.0 _ (ap format_of c.enum_told-1.given.1) q.1 et c.if-t-gt-LAST_CORE.false, c.move_core.auto.1.1.1.1.0))
+    (c.if-t-gt-LAST_CORE.false, c.requires.0, omega (arith, if1_room (format_of a.f) (format_of a.g) a.src.now a.out.now q.0 _ (ap format_of c.enum_told-1.given.1) q.1 et c.if-t-gt-LAST_CORE.false, c.move_core.auto.out))
 
 pub bounds-src-i : goal.bounds-src-i
 bounds-src-i c =
@@ -68,11 +68,11 @@ overflow_add-out c =
 
 pub bounds-out-0-in-If2 : goal.bounds-out-0-in-If2
 bounds-out-0-in-If2 c =
-    omega (arith, (space (format_of c.args.f) (format_of c.args.g) c.args.src.now c.args.out.now c.requires.1.0 c.requires.1.1).1, c.move_core.auto.1.1.1.1.0)
+    omega (arith, (space (format_of c.args.f) (format_of c.args.g) c.args.src.now c.args.out.now c.requires.1.0 c.requires.1.1).1, c.move_core.auto.out)
 
 pub bounds-out-0-in-Storage : goal.bounds-out-0-in-Storage
 bounds-out-0-in-Storage c =
-    omega (arith, (space (format_of c.args.f) (format_of c.args.g) c.args.src.now c.args.out.now c.requires.1.0 c.requires.1.1).1, c.move_core.auto.1.1.1.1.0)
+    omega (arith, (space (format_of c.args.f) (format_of c.args.g) c.args.src.now c.args.out.now c.requires.1.0 c.requires.1.1).1, c.move_core.auto.out)
 
 pub returns-in-If1 : goal.returns-in-If1
 returns-in-If1 c =

@@ -34,4 +34,4 @@ returns c =
     let h = c.r-1.given in
     let o = c.core_out in
     frame-out a.format a.s.now a.core.now n.result n.ensures f.0.0 f.1 r.result r.ensures h.0.0 h.0.1.0 h.1
-    o.new.1.1.1.0 o.result o.ensures
+    o.new.core o.result o.ensures

@@ -26,5 +26,5 @@ returns-then-carries_modes c =
     let a = c.args in
     let r = c.write_modes in
     let m = sym c.carries_modes.ensures ∙ c.if-carries_modes.true in
-    subst (λ f. r.new.1.1.1.0 ≡ layout f (run_frame a.h a.src.now a.from) ++ drop (octets f a.h.frame_type) a.out.now)
+    subst (λ f. r.new.out ≡ layout f (run_frame a.h a.src.now a.from) ++ drop (octets f a.h.frame_type) a.out.now)
     (only_if1 (format_of a.f) a.h.frame_type m) r.ensures

@@ -33,7 +33,7 @@ put_run-requires c =
 pub shape_of-out : goal.shape_of-out
 shape_of-out c =
     let a = c.args in
-    c.put_run.auto.1.1.1.0 ∙ length-set a.out.now 0 c.first_octet.result
+    c.put_run.auto.dst ∙ length-set a.out.now 0 c.first_octet.result
 
 pub returns : goal.returns
 returns c =
@@ -42,5 +42,5 @@ returns c =
     let k = c.core_bits in
     let hb = c.header_bits in
     let r = c.put_run in
-    short_is (format_of a.f) a.h a.src.now a.from a.out.now r.new.1.1.1.0 o.result k.result hb.result c.requires.0 c.requires.1
+    short_is (format_of a.f) a.h a.src.now a.from a.out.now r.new.dst o.result k.result hb.result c.requires.0 c.requires.1
     o.ensures k.ensures.0 hb.ensures.0 r.ensures

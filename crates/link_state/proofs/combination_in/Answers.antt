@@ -9,7 +9,7 @@ use borrow.Author.Tests.{ne_eqb}
 use Rattle.link_state.proofs.combination_in.Goals as goal
 
 pub returns-then-rfci-gt-HIGHEST_RFCI : goal.returns-then-rfci-gt-HIGHEST_RFCI
-returns-then-rfci-gt-HIGHEST_RFCI c = five_at c.args.ns.now c.args.at in given_wrong c5 (sym (rfci_high c5 c.if-rfci-gt-HIGHEST_RFCI.true))
+returns-then-rfci-gt-HIGHEST_RFCI c = let c5 = five_at c.args.ns.now c.args.at in given_wrong c5 (sym (rfci_high c5 c.if-rfci-gt-HIGHEST_RFCI.true))
 
 pub returns-then-t-gt-NO_DATA : goal.returns-then-t-gt-NO_DATA
 returns-then-t-gt-NO_DATA c =
@@ -36,7 +36,7 @@ returns-then-k-size3 c =
     given_wrong c5 (sum_wrong c5 (λ e. omega (arith, c.core_bits-k.ensures.0)))
 
 pub returns-then-combination_good : goal.returns-then-combination_good
-returns-then-combination_good c = c.args in given_right (five_at a.ns.now a.at) (sym c.combination_good.ensures ∙ c.if-combination_good.true)
+returns-then-combination_good c = let a = c.args in given_right (five_at a.ns.now a.at) (sym c.combination_good.ensures ∙ c.if-combination_good.true)
 
 pub returns : goal.returns
-returns c = c.args in given_wrong (five_at a.ns.now a.at) (sym c.combination_good.ensures ∙ c.if-combination_good.false)
+returns c = let a = c.args in given_wrong (five_at a.ns.now a.at) (sym c.combination_good.ensures ∙ c.if-combination_good.false)

@@ -31,7 +31,7 @@ pub bounds-row-table : goal.bounds-row-table
 bounds-row-table c = (at_hand c).named
 
 pub overflow_add-v-in-loop-i : goal.overflow_add-v-in-loop-i
-overflow_add-v-in-loop-i c = at_hand c in record { fits = omega (arith, g.small, g.bit) }
+overflow_add-v-in-loop-i c = let g = at_hand c in record { fits = omega (arith, g.small, g.bit) }
 
 pub loop-i-preserved : goal.loop-i-preserved
 loop-i-preserved c = ((at_hand c).more, omega arith)

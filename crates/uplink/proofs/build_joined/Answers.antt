@@ -61,7 +61,7 @@ returns-then-not-core_fields_good c =
     refused-up _ a.out.now _ (written-refused (up_frame a.request a.fqc a.c a.s1.now a.s2.now a.s3.now) _ (sym (tested c) ∙ not-true _ c.if-not-core_fields_good.true))
 
 pub overflow_add-n : goal.overflow_add-n
-overflow_add-n c = omega (arith, within c, c.join.auto.1.1.1.1.0)
+overflow_add-n c = omega (arith, within c, c.join.auto.core)
 
 pub returns-then-out-n : goal.returns-then-out-n
 returns-then-out-n c =
@@ -76,7 +76,7 @@ overflow_cast-h c =
 pub write_modes-requires : goal.write_modes-requires
 write_modes-requires c =
     let a = c.args in (
-      writable a.request a.fqc a.c a.s1.now a.s2.now a.s3.now c.requires.0 c.requires.1 c.requires.2 _ _ _ a.out.now _ c.quality_of.ensures.1 c.indication_of-i.ensures (sym (tested c) ∙ not-false _ c.if-not-core_fields_good.false) c.join.auto.1.1.1.1.0 (counted-there c) c.if-out-n.false,
+      writable a.request a.fqc a.c a.s1.now a.s2.now a.s3.now c.requires.0 c.requires.1 c.requires.2 _ _ _ a.out.now _ c.quality_of.ensures.1 c.indication_of-i.ensures (sym (tested c) ∙ not-false _ c.if-not-core_fields_good.false) c.join.auto.core (counted-there c) c.if-out-n.false,
       le-leb a.c.frame_type 9 c.requires.1,
     )
 

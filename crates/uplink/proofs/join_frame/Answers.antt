@@ -7,7 +7,7 @@ use Rattle.uplink.proofs.UpLaws.{refused-up, into_same}
 use Rattle.uplink.proofs.join_frame.Goals as goal
 
 pub build_joined-requires : goal.build_joined-requires
-build_joined-requires c = c.judge.ensures.core _ c.c-1.given.1 in (k.good, k.type, k.flows)
+build_joined-requires c = let k = c.judge.ensures.core _ c.c-1.given.1 in (k.good, k.type, k.flows)
 
 pub build_empty-requires : goal.build_empty-requires
 build_empty-requires c = (c.judge.ensures.quality _ c.quality.given.1, refl)

@@ -73,7 +73,7 @@ returns-in-Refused c =
     let i = found_is a.format n.result f.0.0 n.ensures f.1 in
     let o = c.core_out-r in
     let e = c.r-1.given in
-    no_room a.format a.offset a.number a.rec.now v.result v.ensures x.0.0 x.1 (format_of f.0.0) i a.core.now o.new.1.1.1.0 o.result o.ensures e.0.0 e.1 c.stays.result c.stays.ensures
+    no_room a.format a.offset a.number a.rec.now v.result v.ensures x.0.0 x.1 (format_of f.0.0) i a.core.now o.new.core o.result o.ensures e.0.0 e.1 c.stays.result c.stays.ensures
 
 pub returns-in-Frame-r : goal.returns-in-Frame-r
 returns-in-Frame-r c =
@@ -85,4 +85,4 @@ returns-in-Frame-r c =
     let i = found_is a.format n.result f.0.0 n.ensures f.1 in
     let o = c.core_out-r in
     let e = c.enum_told-in-Frame-r-1.given in
-    core_there a.format a.offset a.number a.rec.now v.result v.ensures x.0.0 x.1 (format_of f.0.0) i a.core.now o.new.1.1.1.0 o.result o.ensures e.0.0 e.0.1.0 e.1
+    core_there a.format a.offset a.number a.rec.now v.result v.ensures x.0.0 x.1 (format_of f.0.0) i a.core.now o.new.core o.result o.ensures e.0.0 e.0.1.0 e.1

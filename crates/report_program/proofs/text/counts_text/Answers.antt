@@ -57,7 +57,7 @@ pub put_line-requires : goal.put_line-requires
 put_line-requires c = omega (arith, (start c).requires, few-octets c, same-room c)
 
 pub shape_of-out : goal.shape_of-out
-shape_of-out c = c.put_line.auto.1.1.0 ∙ same-room c
+shape_of-out c = c.put_line.auto.out ∙ same-room c
 
 pub returns : goal.returns
 unfolding report_text

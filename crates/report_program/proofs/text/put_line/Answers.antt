@@ -16,7 +16,7 @@ digits_fit c = few-digits c.before.before.before.before.args.n c.decimal.result 
 
 pub put-behind_number-requires : goal.put-behind_number-requires
 put-behind_number-requires c =
-    omega (arith, c.requires, digits_fit c, c.decimal-k.ensures.0.1, c.put-behind_label.ensures.0, c.put-behind_label.auto.1.0)
+    omega (arith, c.requires, digits_fit c, c.decimal-k.ensures.0.1, c.put-behind_label.ensures.0, c.put-behind_label.auto.out)
 
 pub put-requires : goal.put-requires
 put-requires c =
