@@ -4,4 +4,4 @@ use Rattle.parity.proofs.Octets.{step_is}
 use Rattle.parity.proofs.step.Goals as goal
 
 pub returns : goal.returns
-returns c = step_is c.args.r c.wrapping_sub_u8-mask.result (search rules) (search rules) c.wrapping_sub_u8-mask.ensures
+returns c = step_is c.args.r c.wrapping_sub_u8-mask.result (search rules) (search rules) c.wrapping_sub_u8-mask.ensures.value
