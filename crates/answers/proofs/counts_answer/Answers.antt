@@ -8,8 +8,8 @@ use Rattle.answers.proofs.counts_answer.Goals as goal
 
 pub returns-in-Done : goal.returns-in-Done
 returns-in-Done c =
-    sym (ap (λ a. placed_numbers (counts_of a)) c.a-1.given.1)
+    sym (ap (λ a. placed_numbers (counts_of a)) c.in-Done.is)
 
 pub returns-in-Refused : goal.returns-in-Refused
 returns-in-Refused c =
-    ap (λ n. placed_numbers (refused_at n c.a-in-Refused-1.given.0.1.0 c.a-in-Refused-1.given.0.1.1.0)) c.refusal_number.ensures ∙ sym (ap (λ a. placed_numbers (counts_of a)) c.a-in-Refused-1.given.1)
+    ap (λ n. placed_numbers (refused_at n c.in-Refused.k c.in-Refused.at)) c.refusal_number.ensures ∙ sym (ap (λ a. placed_numbers (counts_of a)) c.in-Refused.is)

@@ -10,13 +10,13 @@ pub returns-in-Frame : goal.returns-in-Frame
 returns-in-Frame c =
     let r = c.read_frame in
     let core = buffer_core r.new.core in
-    record { answer = ap frame_numbers (sym (ap (reading_of core) c.h-1.given.1) ∙ r.ensures.answer); buffer = r.ensures.buffer }
+    record { answer = ap frame_numbers (sym (ap (reading_of core) c.in-Frame.is) ∙ r.ensures.answer); buffer = r.ensures.buffer }
 
 pub returns-in-Refused : goal.returns-in-Refused
 returns-in-Refused c =
     let r = c.read_frame in
     let core = buffer_core r.new.core in
     record {
-      answer = c.refused_frame.ensures ∙ ap frame_numbers (sym (ap (reading_of core) c.e-1.given.1) ∙ r.ensures.answer);
+      answer = c.refused_frame.ensures ∙ ap frame_numbers (sym (ap (reading_of core) c.in-Refused.is) ∙ r.ensures.answer);
       buffer = r.ensures.buffer;
     }

@@ -23,12 +23,12 @@ plan_there c =
 pub returns-in_default : goal.returns-in_default
 returns-in_default c =
     let a = c.args in let nf = c.format_numbered in
-    into_from a.from a.to a.request a.s.now a.out.now _ refl (found_none a.from nf.result nf.ensures c.enum_told-1.given.1)
+    into_from a.from a.to a.request a.s.now a.out.now _ refl (found_none a.from nf.result nf.ensures c.in_default.is)
 
 pub returns-in_default-format_numbered : goal.returns-in_default-format_numbered
 returns-in_default-format_numbered c =
     let a = c.args in let nf = c.format_numbered in let f = c.f-1.given in let ng = c.format_numbered-2 in
-    into_to a.from a.to a.request a.s.now a.out.now _ refl (format_of f.0.0) (found_is a.from nf.result f.0.0 nf.ensures f.1) (found_none a.to ng.result ng.ensures c.enum_told-in_default-format_numbered-1.given.1)
+    into_to a.from a.to a.request a.s.now a.out.now _ refl (format_of f.0.0) (found_is a.from nf.result f.0.0 nf.ensures f.1) (found_none a.to ng.result ng.ensures c.in_default-format_numbered.is)
 
 pub returns-then-request-gt-HIGHEST_MODE : goal.returns-then-request-gt-HIGHEST_MODE
 returns-then-request-gt-HIGHEST_MODE c =

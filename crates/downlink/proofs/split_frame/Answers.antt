@@ -32,5 +32,5 @@ returns-in-Frame c =
 pub returns-in-Refused : goal.returns-in-Refused
 returns-in-Refused c =
     let a = c.args in
-    let r = ap (reading_of (λ t. core_in if1 t (bits a.frame.now))) (sym c.e-1.given.1) ∙ c.read_if1.ensures in
+    let r = ap (reading_of (λ t. core_in if1 t (bits a.frame.now))) (sym c.in-Refused.is) ∙ c.read_if1.ensures in
     refused_into _ a.s1.now a.s2.now a.s3.now _ (frame_refused a.link a.frame.now _ _ _ c.if-link-eq0.false _ r)

@@ -50,7 +50,7 @@ put_modes-requires c =
     let q = c.requires.1 in
     let ff = front_fields (format_of a.f) a.src.now q.0 (octets (format_of a.f) q.0.type) q.1.begins in
     let et = c.type_in-t.ensures ∙ ff.0 in
-    (c.if-t-gt-LAST_CORE.false, c.requires.0, omega (arith, if1_room (format_of a.f) (format_of a.g) a.src.now a.out.now q.0 _ (ap format_of c.enum_told-1.given.1) q.1 et c.if-t-gt-LAST_CORE.false, c.move_core.auto.out))
+    (c.if-t-gt-LAST_CORE.false, c.requires.0, omega (arith, if1_room (format_of a.f) (format_of a.g) a.src.now a.out.now q.0 _ (ap format_of c.in-If1.is) q.1 et c.if-t-gt-LAST_CORE.false, c.move_core.auto.out))
 
 pub bounds-src-i : goal.bounds-src-i
 bounds-src-i c =
@@ -58,13 +58,13 @@ bounds-src-i c =
     let q = c.requires.1 in
     let ff = front_fields (format_of a.f) a.src.now q.0 (octets (format_of a.f) q.0.type) q.1.begins in
     let et = c.type_in-t.ensures ∙ ff.0 in
-    core_in_lem (format_of a.f) (format_of a.g) a.src.now a.out.now q.0 _ _ (ap format_of c.enum_told-in-If2-1.given.1) q.1 et c.if-t-gt-LAST_CORE.false c.core_at-i.ensures.0
+    core_in_lem (format_of a.f) (format_of a.g) a.src.now a.out.now q.0 _ _ (ap format_of c.in-If2.is) q.1 et c.if-t-gt-LAST_CORE.false c.core_at-i.ensures.0
 
 pub overflow_add-out : goal.overflow_add-out
 overflow_add-out c =
     let a = c.args in
     let fo = c.first_octet-first in
-    omega (arith, first_small _ _ fo.result (format_of a.g) (search rules) fo.ensures (ap format_of c.enum_told-in-If2-1.given.1), (c.type_inv.src c.core_at-i.result).fits)
+    omega (arith, first_small _ _ fo.result (format_of a.g) (search rules) fo.ensures (ap format_of c.in-If2.is), (c.type_inv.src c.core_at-i.result).fits)
 
 pub bounds-out-0-in-If2 : goal.bounds-out-0-in-If2
 bounds-out-0-in-If2 c =
@@ -82,7 +82,7 @@ returns-in-If1 c =
     let qu = c.quality_in in
     let fo = c.first_octet-first in
     let ff = front_fields (format_of a.f) a.src.now x (octets (format_of a.f) x.type) p.begins in
-    done_if1 (format_of a.f) a.r a.src.now a.out.now c.move_core.new.out x ty.result qu.result fo.result (ty.ensures ∙ ff.0) (qu.ensures ∙ ff.1) (search rules) (format_of a.g) _ (ap format_of c.enum_told-1.given.1) p c.if-t-gt-LAST_CORE.false c.requires.0 fo.ensures c.move_core.ensures c.put_modes.ensures
+    done_if1 (format_of a.f) a.r a.src.now a.out.now c.move_core.new.out x ty.result qu.result fo.result (ty.ensures ∙ ff.0) (qu.ensures ∙ ff.1) (search rules) (format_of a.g) _ (ap format_of c.in-If1.is) p c.if-t-gt-LAST_CORE.false c.requires.0 fo.ensures c.move_core.ensures c.put_modes.ensures
 
 pub returns-in-If2 : goal.returns-in-If2
 returns-in-If2 c =
@@ -92,7 +92,7 @@ returns-in-If2 c =
     let qu = c.quality_in in
     let fo = c.first_octet-first in
     let ff = front_fields (format_of a.f) a.src.now x (octets (format_of a.f) x.type) p.begins in
-    done_if2 (format_of a.f) a.r a.src.now a.out.now c.move_core.new.out x ty.result qu.result fo.result (ty.ensures ∙ ff.0) (qu.ensures ∙ ff.1) (search rules) (format_of a.g) c.core_at-i.result _ (λ k. (c.shared_slice_known-1.given k).fits) (ap format_of c.enum_told-in-If2-1.given.1) p c.if-t-gt-LAST_CORE.false fo.ensures c.core_at-i.ensures.0 refl c.move_core.ensures
+    done_if2 (format_of a.f) a.r a.src.now a.out.now c.move_core.new.out x ty.result qu.result fo.result (ty.ensures ∙ ff.0) (qu.ensures ∙ ff.1) (search rules) (format_of a.g) c.core_at-i.result _ (λ k. (c.shared_slice_known-1.given k).fits) (ap format_of c.in-If2.is) p c.if-t-gt-LAST_CORE.false fo.ensures c.core_at-i.ensures.0 refl c.move_core.ensures
 
 pub returns-in-Storage : goal.returns-in-Storage
 returns-in-Storage c =
@@ -102,4 +102,4 @@ returns-in-Storage c =
     let qu = c.quality_in in
     let fo = c.first_octet-first in
     let ff = front_fields (format_of a.f) a.src.now x (octets (format_of a.f) x.type) p.begins in
-    done_storage (format_of a.f) a.r a.src.now a.out.now c.move_core.new.out x ty.result qu.result fo.result (ty.ensures ∙ ff.0) (qu.ensures ∙ ff.1) (search rules) (format_of a.g) (ap format_of c.enum_told-in-Storage-1.given.1) p c.if-t-gt-LAST_CORE.false fo.ensures c.move_core.ensures
+    done_storage (format_of a.f) a.r a.src.now a.out.now c.move_core.new.out x ty.result qu.result fo.result (ty.ensures ∙ ff.0) (qu.ensures ∙ ff.1) (search rules) (format_of a.g) (ap format_of c.in-Storage.is) p c.if-t-gt-LAST_CORE.false fo.ensures c.move_core.ensures

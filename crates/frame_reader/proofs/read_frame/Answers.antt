@@ -6,7 +6,7 @@ use Rattle.frame_reader.proofs.read_frame.Goals as goal
 pub returns-in_default : goal.returns-in_default
 returns-in_default c =
     let a = c.args in
-    unknown_format a.format a.s.now a.core.now c.format_numbered.result c.format_numbered.ensures c.enum_told-1.given.1
+    unknown_format a.format a.s.now a.core.now c.format_numbered.result c.format_numbered.ensures c.in_default.is
 
 pub returns-in_default-r : goal.returns-in_default-r
 returns-in_default-r c =
@@ -14,7 +14,7 @@ returns-in_default-r c =
     let n = c.format_numbered in
     let f = c.f-1.given in
     let r = c.read_single-r in
-    refused-frame a.format a.s.now a.core.now n.result n.ensures f.0.0 f.1 r.result r.ensures c.enum_told-in_default-r-1.given.0.0 c.enum_told-in_default-r-1.given.1
+    refused-frame a.format a.s.now a.core.now n.result n.ensures f.0.0 f.1 r.result r.ensures c.in_default-r.field-0 c.in_default-r.is
 
 pub core_out-requires : goal.core_out-requires
 core_out-requires c =

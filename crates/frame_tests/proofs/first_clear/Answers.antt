@@ -13,14 +13,14 @@ use Rattle.frame_tests.proofs.first_clear.Goals as goal
 pub returns-in-If1 : goal.returns-in-If1
 returns-in-If1 c =
     let a = c.args in
-    first_if1 a.s.now (c.type_inv.s 0).fits c.requires ∙ sym (ap (λ f. clear (spare_before (format_of f)) (bits a.s.now) && clear (spare_after (format_of f)) (drop (spare_before (format_of f) + 5) (bits a.s.now))) c.enum_told-1.given.1)
+    first_if1 a.s.now (c.type_inv.s 0).fits c.requires ∙ sym (ap (λ f. clear (spare_before (format_of f)) (bits a.s.now) && clear (spare_after (format_of f)) (drop (spare_before (format_of f) + 5) (bits a.s.now))) c.in-If1.is)
 
 pub returns-in-If2 : goal.returns-in-If2
 returns-in-If2 c =
     let a = c.args in
-    first_if2 a.s.now ∙ sym (ap (λ f. clear (spare_before (format_of f)) (bits a.s.now) && clear (spare_after (format_of f)) (drop (spare_before (format_of f) + 5) (bits a.s.now))) c.enum_told-in-If2-1.given.1)
+    first_if2 a.s.now ∙ sym (ap (λ f. clear (spare_before (format_of f)) (bits a.s.now) && clear (spare_after (format_of f)) (drop (spare_before (format_of f) + 5) (bits a.s.now))) c.in-If2.is)
 
 pub returns-in-Storage : goal.returns-in-Storage
 returns-in-Storage c =
     let a = c.args in
-    first_storage a.s.now (c.type_inv.s 0).fits c.requires ∙ sym (ap (λ f. clear (spare_before (format_of f)) (bits a.s.now) && clear (spare_after (format_of f)) (drop (spare_before (format_of f) + 5) (bits a.s.now))) c.enum_told-in-Storage-1.given.1)
+    first_storage a.s.now (c.type_inv.s 0).fits c.requires ∙ sym (ap (λ f. clear (spare_before (format_of f)) (bits a.s.now) && clear (spare_after (format_of f)) (drop (spare_before (format_of f) + 5) (bits a.s.now))) c.in-Storage.is)

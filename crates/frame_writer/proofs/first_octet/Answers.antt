@@ -5,12 +5,12 @@ use Rattle.frame_writer.proofs.first_octet.Goals as goal
 
 pub returns-in-If1 : goal.returns-in-If1
 returns-in-If1 c =
-    rw c.enum_told-1.given.1 (first_if c.args.t c.args.q c.requires.0 c.requires.1)
+    rw c.in-If1.is (first_if c.args.t c.args.q c.requires.0 c.requires.1)
 
 pub returns-in-If2 : goal.returns-in-If2
 returns-in-If2 c =
-    rw c.enum_told-in-If2-1.given.1 (first_if c.args.t c.args.q c.requires.0 c.requires.1)
+    rw c.in-If2.is (first_if c.args.t c.args.q c.requires.0 c.requires.1)
 
 pub returns-in-Storage : goal.returns-in-Storage
 returns-in-Storage c =
-    rw c.enum_told-in-Storage-1.given.1 (first_storage c.args.t c.args.q c.requires.0 c.requires.1)
+    rw c.in-Storage.is (first_storage c.args.t c.args.q c.requires.0 c.requires.1)

@@ -11,9 +11,9 @@ pub returns-in-Class : goal.returns-in-Class
 returns-in-Class c =
     let r = c.reception_class in
     ap {B = ClassAnswer} (λ n. record { refusal = 0; frame = 0; octet = 0; class = n }) c.class_number.ensures
-    ∙ ap class_numbers (sym (ap classified_of c.c-1.given.1) ∙ r.ensures)
+    ∙ ap class_numbers (sym (ap classified_of c.in-Class.is) ∙ r.ensures)
 
 pub returns-in-Refused : goal.returns-in-Refused
 returns-in-Refused c =
     let r = c.reception_class in
-    ap (λ n. class_numbers (refused n)) c.refusal_number.ensures ∙ ap class_numbers (sym (ap classified_of c.e-1.given.1) ∙ r.ensures)
+    ap (λ n. class_numbers (refused n)) c.refusal_number.ensures ∙ ap class_numbers (sym (ap classified_of c.in-Refused.is) ∙ r.ensures)

@@ -8,7 +8,7 @@ use Rattle.level_two.proofs.amrwb_report.Goals as goal
 
 pub returns-in-Counts : goal.returns-in-Counts
 returns-in-Counts c =
-    let r = c.report_recording in ap report_numbers (sym (ap reported_of c.c-1.given.1) ∙ r.ensures)
+    let r = c.report_recording in ap report_numbers (sym (ap reported_of c.in-Counts.is) ∙ r.ensures)
 
 pub returns-in-Refused : goal.returns-in-Refused
 returns-in-Refused c =

@@ -21,7 +21,7 @@ returns-in-End c =
     let a = c.args in
     let w = c.view_next-a in
     let p = w.ensures in
-    record { answer = c.unshown.ensures ∙ ended _ _ _ w.result p.views c.enum_told-1.given.1; buffer = p.buffer }
+    record { answer = c.unshown.ensures ∙ ended _ _ _ w.result p.views c.in-End.is; buffer = p.buffer }
 
 pub returns-in-Refused : goal.returns-in-Refused
 returns-in-Refused c =

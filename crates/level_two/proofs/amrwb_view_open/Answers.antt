@@ -7,7 +7,7 @@ use Rattle.level_two.proofs.amrwb_view_open.Goals as goal
 
 pub returns-in-Done : goal.returns-in-Done
 returns-in-Done c =
-    c.unshown.ensures ∙ ap open_numbers (sym (ap counts_of c.number-1.given.1) ∙ c.view_open.ensures)
+    c.unshown.ensures ∙ ap open_numbers (sym (ap counts_of c.in-Done.is) ∙ c.view_open.ensures)
 
 pub returns-in-Refused : goal.returns-in-Refused
 returns-in-Refused c =

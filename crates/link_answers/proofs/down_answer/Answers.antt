@@ -10,9 +10,9 @@ use Rattle.link_answers.proofs.down_answer.Goals as goal
 pub returns-in-Split : goal.returns-in-Split
 returns-in-Split c =
     let l = c.args.link in
-    split-numbers c.d-1.given.0.0 l _ _ c.is_forwarded.ensures c.request_forwarded.ensures ∙ ap (λ d. down_numbers (down_of d) l) (sym c.d-1.given.1)
+    split-numbers c.in-Split.s l _ _ c.is_forwarded.ensures c.request_forwarded.ensures ∙ ap (λ d. down_numbers (down_of d) l) (sym c.in-Split.is)
 
 pub returns-in-Refused : goal.returns-in-Refused
 returns-in-Refused c =
     let l = c.args.link in
-    ap (λ n. down_numbers (refused n) l) c.refusal_number.ensures ∙ ap (λ d. down_numbers (down_of d) l) (sym c.d-in-Refused-1.given.1)
+    ap (λ n. down_numbers (refused n) l) c.refusal_number.ensures ∙ ap (λ d. down_numbers (down_of d) l) (sym c.in-Refused.is)

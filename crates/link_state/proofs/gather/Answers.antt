@@ -33,7 +33,7 @@ returns-in_default c =
     let a = c.args in
     let l = c.loop-k in
     let f = c.combination_in-f in
-    let w = given_not (five_at a.ns.now _) (ap (found_of 11) (sym c.enum_told-1.given.1) ∙ f.ensures) in
+    let w = given_not (five_at a.ns.now _) (ap (found_of 11) (sym c.in_default.is) ∙ f.ensures) in
     (turn_wrong a.ns.now a.n c.requires.0 c.requires.1 l.k l.places c.loop-k-test.true l.invariant.0 l.invariant.1 l.invariant.2 _ refl w, false-true)
 
 pub returns-then-not-is_apart : goal.returns-then-not-is_apart

@@ -7,40 +7,40 @@ use Rattle.order_tables.proofs.put_core.Goals as goal
 
 pub core_0-requires : goal.core_0-requires
 core_0-requires c =
-    subst (λ m. RowReady m c.args.row.now c.args.core.now) c.in-0.keys1 c.requires
+    subst (λ m. RowReady m c.args.row.now c.args.core.now) c.in-0.is c.requires
 
 pub core_1-requires : goal.core_1-requires
 core_1-requires c =
-    subst (λ m. RowReady m c.args.row.now c.args.core.now) c.in-1.keys2 c.requires
+    subst (λ m. RowReady m c.args.row.now c.args.core.now) c.in-1.is c.requires
 
 pub core_2-requires : goal.core_2-requires
 core_2-requires c =
-    subst (λ m. RowReady m c.args.row.now c.args.core.now) c.in-2.keys3 c.requires
+    subst (λ m. RowReady m c.args.row.now c.args.core.now) c.in-2.is c.requires
 
 pub core_3-requires : goal.core_3-requires
 core_3-requires c =
-    subst (λ m. RowReady m c.args.row.now c.args.core.now) c.in-3.keys4 c.requires
+    subst (λ m. RowReady m c.args.row.now c.args.core.now) c.in-3.is c.requires
 
 pub core_4-requires : goal.core_4-requires
 core_4-requires c =
-    subst (λ m. RowReady m c.args.row.now c.args.core.now) (last_mode _ c.requires.has_order c.in_default.rest.0.0.0.1 c.in_default.rest.0.0.1 c.in_default.rest.0.1 c.in_default.rest.1) c.requires
+    subst (λ m. RowReady m c.args.row.now c.args.core.now) (last_mode _ c.requires.has_order c.in_default.in_default-own.rest.0.0.0.1 c.in_default.in_default-own.rest.0.0.1 c.in_default.in_default-own.rest.0.1 c.in_default.in_default-own.rest.1) c.requires
 
 pub returns-in-0 : goal.returns-in-0
 returns-in-0 c =
-    c.before.before.core-0.ensures ∙ ap (λ m. with_core m c.args.row.now c.args.core.now) (sym c.in-0.keys1)
+    c.before.before.core-0.ensures ∙ ap (λ m. with_core m c.args.row.now c.args.core.now) (sym c.in-0.is)
 
 pub returns-in-1 : goal.returns-in-1
 returns-in-1 c =
-    c.before.before.core-1.ensures ∙ ap (λ m. with_core m c.args.row.now c.args.core.now) (sym c.in-1.keys2)
+    c.before.before.core-1.ensures ∙ ap (λ m. with_core m c.args.row.now c.args.core.now) (sym c.in-1.is)
 
 pub returns-in-2 : goal.returns-in-2
 returns-in-2 c =
-    c.before.before.core-2.ensures ∙ ap (λ m. with_core m c.args.row.now c.args.core.now) (sym c.in-2.keys3)
+    c.before.before.core-2.ensures ∙ ap (λ m. with_core m c.args.row.now c.args.core.now) (sym c.in-2.is)
 
 pub returns-in-3 : goal.returns-in-3
 returns-in-3 c =
-    c.before.before.core-3.ensures ∙ ap (λ m. with_core m c.args.row.now c.args.core.now) (sym c.in-3.keys4)
+    c.before.before.core-3.ensures ∙ ap (λ m. with_core m c.args.row.now c.args.core.now) (sym c.in-3.is)
 
 pub returns-in_default : goal.returns-in_default
 returns-in_default c =
-    c.before.before.core-4.ensures ∙ ap (λ m. with_core m c.args.row.now c.args.core.now) (sym (last_mode _ c.requires.has_order c.in_default.rest.0.0.0.1 c.in_default.rest.0.0.1 c.in_default.rest.0.1 c.in_default.rest.1))
+    c.before.before.core-4.ensures ∙ ap (λ m. with_core m c.args.row.now c.args.core.now) (sym (last_mode _ c.requires.has_order c.in_default.in_default-own.rest.0.0.0.1 c.in_default.in_default-own.rest.0.0.1 c.in_default.in_default-own.rest.0.1 c.in_default.in_default-own.rest.1))

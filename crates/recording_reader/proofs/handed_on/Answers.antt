@@ -9,8 +9,8 @@ use Rattle.recording_reader.proofs.handed_on.Goals as goal
 
 pub returns-in-Refused : goal.returns-in-Refused
 returns-in-Refused c =
-    λ e h. ap (λ x. refused_at (number_of x) c.args.k c.args.at) (let g = c.r-1.given.1 in let q : c.r-1.given.0.0 ≡ e = cc in q)
+    λ e h. ap (λ x. refused_at (number_of x) c.args.k c.args.at) (let g = c.in-Refused.is in let q : c.in-Refused.e ≡ e = cc in q)
 
 pub returns-in-Frame : goal.returns-in-Frame
 returns-in-Frame c =
-    λ e h. absurd (let g = c.enum_told-1.given.1 in let z : ◌≡◌ {A = ℕ} 0 1 = cc in omega arith)
+    λ e h. absurd (let g = c.in-Frame.is in let z : ◌≡◌ {A = ℕ} 0 1 = cc in omega arith)

@@ -7,4 +7,4 @@ use Rattle.recording_reader.proofs.headed.Goals as goal
 
 pub returns-in-Storage : goal.returns-in-Storage
 returns-in-Storage c =
-    c.has_file_header.ensures ∙ ap (λ f. headed (format_of f) c.args.s.now) (sym c.enum_told-in-Storage-1.given.1)
+    c.has_file_header.ensures ∙ ap (λ f. headed (format_of f) c.args.s.now) (sym c.in-Storage.is)

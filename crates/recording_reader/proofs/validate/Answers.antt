@@ -8,7 +8,7 @@ use Rattle.recording_reader.proofs.validate.Goals as goal
 
 pub returns-in_default : goal.returns-in_default
 returns-in_default c =
-    let n = c.format_numbered in unknown_format c.args.format c.args.s.now (found_none c.args.format n.result n.ensures c.enum_told-1.given.1)
+    let n = c.format_numbered in unknown_format c.args.format c.args.s.now (found_none c.args.format n.result n.ensures c.in_default.is)
 
 pub returns-in_default-a : goal.returns-in_default-a
 returns-in_default-a c =

@@ -10,11 +10,11 @@ use Rattle.recording_writer.proofs.put_file_header.Goals as goal
 
 pub copy_all-requires : goal.copy_all-requires
 copy_all-requires c =
-    subst (λ g. length (file_header (format_of g)) ≤ length c.args.out.now) c.enum_told-in-Storage-1.given.1 c.requires
+    subst (λ g. length (file_header (format_of g)) ≤ length c.args.out.now) c.in-Storage.is c.requires
 
 pub returns-in-Storage : goal.returns-in-Storage
 returns-in-Storage c =
-    let e = sym c.enum_told-in-Storage-1.given.1 in (
+    let e = sym c.in-Storage.is in (
       ap (λ g. length (file_header (format_of g))) e,
       c.copy_all.ensures ∙ ap (λ g. overwritten (file_header (format_of g)) c.args.out.now) e,
     )

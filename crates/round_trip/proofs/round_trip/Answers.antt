@@ -9,12 +9,12 @@ use Rattle.round_trip.proofs.round_trip.Goals as goal
 pub returns-in_default : goal.returns-in_default
 returns-in_default c =
     let a = c.args in
-    stays a.from a.to a.request a.s.now a.mid.now _ a.out.now _ _ _ _ (λ i. (c.type_inv.s i).fits) c.convert-a.ensures (ap counts_of c.enum_told-1.given.1)
+    stays a.from a.to a.request a.s.now a.mid.now _ a.out.now _ _ _ _ (λ i. (c.type_inv.s i).fits) c.convert-a.ensures (ap counts_of c.in_default.is)
 
 pub slice_bounds-convert-end : goal.slice_bounds-convert-end
 slice_bounds-convert-end c =
     let a = c.args in
-    mid_long a.from a.to a.request a.s.now a.mid.now _ c.convert-a.result _ _ c.convert-a.ensures (ap counts_of c.a-1.given.1)
+    mid_long a.from a.to a.request a.s.now a.mid.now _ c.convert-a.result _ _ c.convert-a.ensures (ap counts_of c.in-Done.is)
 
 pub slice_bounds-convert-end-2 : goal.slice_bounds-convert-end-2
 slice_bounds-convert-end-2 c =

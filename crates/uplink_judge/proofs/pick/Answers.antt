@@ -20,9 +20,9 @@ returns-then-fqc-eq-RESERVED c = let a = c.args in fqc_reserved a.link a.fqc a.r
 pub returns-in_default : goal.returns-in_default
 returns-in_default c =
     let a = c.args in
-    ap (found_of 16) (sym c.enum_told-1.given.1) ∙ c.lookup_rfci.ensures ∙ looks_up a.link a.fqc a.rfci c.if-fqc-gt-RESERVED.false c.if-rfci-gt-HIGHEST_RFCI.false c.if-link-eq0.false c.if-fqc-eq-RESERVED.false
+    ap (found_of 16) (sym c.in_default.is) ∙ c.lookup_rfci.ensures ∙ looks_up a.link a.fqc a.rfci c.if-fqc-gt-RESERVED.false c.if-rfci-gt-HIGHEST_RFCI.false c.if-link-eq0.false c.if-fqc-eq-RESERVED.false
 
 pub returns : goal.returns
 returns c =
     let a = c.args in
-    ap (found_of 16) (sym c.c-1.given.1) ∙ c.lookup_rfci.ensures ∙ looks_up a.link a.fqc a.rfci c.if-fqc-gt-RESERVED.false c.if-rfci-gt-HIGHEST_RFCI.false c.if-link-eq0.false c.if-fqc-eq-RESERVED.false
+    ap (found_of 16) (sym c.in-Is.is) ∙ c.lookup_rfci.ensures ∙ looks_up a.link a.fqc a.rfci c.if-fqc-gt-RESERVED.false c.if-rfci-gt-HIGHEST_RFCI.false c.if-link-eq0.false c.if-fqc-eq-RESERVED.false

@@ -13,7 +13,7 @@ returns-in_default c =
     let a = c.args in
     let n = c.format_numbered in
     out_next a.format a.offset a.number a.rec.now c.out_of_range.result c.out_of_range.ensures
-    (next_unknown a.format a.rec.now a.number a.offset (found_none a.format n.result n.ensures c.enum_told-1.given.1))
+    (next_unknown a.format a.rec.now a.number a.offset (found_none a.format n.result n.ensures c.in_default.is))
 
 pub returns-then-len-offset : goal.returns-then-len-offset
 returns-then-len-offset c =

@@ -24,7 +24,7 @@ pub returns-in_default : goal.returns-in_default
 returns-in_default c =
     let a = c.args in
     let v = c.next_of-a in
-    no_frame a.format a.offset a.number a.rec.now v.result v.ensures (length a.core.now) a.core.now (λ x e. not_frame v.result.shown x e c.in_default.keys2)
+    no_frame a.format a.offset a.number a.rec.now v.result v.ensures (length a.core.now) a.core.now (λ x e. not_frame v.result.shown x e c.in_default.in_default-own.keys2)
 
 pub returns-in_default-format_numbered : goal.returns-in_default-format_numbered
 returns-in_default-format_numbered c =
@@ -32,7 +32,7 @@ returns-in_default-format_numbered c =
     let v = c.next_of-a in
     let x = c.s-1.given in
     let n = c.format_numbered in
-    format_there a.format a.offset a.number a.rec.now v.result v.ensures x.0.0 x.1 (found_none a.format n.result n.ensures c.enum_told-1.given.1)
+    format_there a.format a.offset a.number a.rec.now v.result v.ensures x.0.0 x.1 (found_none a.format n.result n.ensures c.in_default-format_numbered.is)
 
 pub slice_bounds-core_out-count : goal.slice_bounds-core_out-count
 slice_bounds-core_out-count c =

@@ -12,7 +12,7 @@ returns-in_default c =
     let a = c.args in
     let n = c.format_numbered in
     sym
-    (open_unknown a.format a.rec.now (found_none a.format n.result n.ensures c.enum_told-1.given.1))
+    (open_unknown a.format a.rec.now (found_none a.format n.result n.ensures c.in_default.is))
 
 pub returns-then-rec-gt-LIMIT : goal.returns-then-rec-gt-LIMIT
 returns-then-rec-gt-LIMIT c =

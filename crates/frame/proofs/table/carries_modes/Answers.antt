@@ -6,4 +6,4 @@ use Rattle.frame.specs.Answers.{format_of}
 use Rattle.frame.proofs.table.carries_modes.Goals as goal
 
 pub returns-in-If1 : goal.returns-in-If1
-returns-in-If1 c = sym (ap (λ f. carries_modes (format_of f) c.args.t) c.enum_told-1.given.1)
+returns-in-If1 c = sym (ap (λ f. carries_modes (format_of f) c.args.t) c.in-If1.is)

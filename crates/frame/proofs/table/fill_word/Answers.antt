@@ -9,14 +9,14 @@ use Rattle.frame.proofs.table.fill_word.Goals as goal
 pub returns-in-If1 : goal.returns-in-If1
 unfolding fill_word core_bits octets
 returns-in-If1 c =
-    sym (ap (λ f. fill_word (format_of f)) c.enum_told-1.given.1)
+    sym (ap (λ f. fill_word (format_of f)) c.in-If1.is)
 
 pub returns-in-If2 : goal.returns-in-If2
 unfolding fill_word core_bits octets
 returns-in-If2 c =
-    sym (ap (λ f. fill_word (format_of f)) c.enum_told-in-If2-1.given.1)
+    sym (ap (λ f. fill_word (format_of f)) c.in-If2.is)
 
 pub returns-in-Storage : goal.returns-in-Storage
 unfolding fill_word core_bits octets
 returns-in-Storage c =
-    sym (ap (λ f. fill_word (format_of f)) c.enum_told-in-Storage-1.given.1)
+    sym (ap (λ f. fill_word (format_of f)) c.in-Storage.is)

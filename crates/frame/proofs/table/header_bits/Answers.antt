@@ -11,9 +11,9 @@ use Rattle.frame.proofs.table.header_bits.Goals as goal
 pub returns-then-t-le9 : goal.returns-then-t-le9
 returns-then-t-le9 c =
     let t = c.args.t in
-    (sym (ap (λ f. header_bits (format_of f) t) c.enum_told-1.given.1 ∙ ap (λ b. cond b 24 8) (le-leb t 9 c.if-t-le9.true)), omega arith)
+    (sym (ap (λ f. header_bits (format_of f) t) c.in-If1.is ∙ ap (λ b. cond b 24 8) (le-leb t 9 c.if-t-le9.true)), omega arith)
 
 pub returns-else-t-le9 : goal.returns-else-t-le9
 returns-else-t-le9 c =
     let t = c.args.t in
-    (sym (ap (λ f. header_bits (format_of f) t) c.enum_told-1.given.1 ∙ ap (λ b. cond b 24 8) (lt-leb t 9 c.if-t-le9.false)), omega arith)
+    (sym (ap (λ f. header_bits (format_of f) t) c.in-If1.is ∙ ap (λ b. cond b 24 8) (lt-leb t 9 c.if-t-le9.false)), omega arith)

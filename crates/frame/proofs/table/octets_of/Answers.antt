@@ -11,19 +11,19 @@ pub returns-in-If1 : goal.returns-in-If1
 returns-in-If1 c =
     let t = c.args.t in
     let e = ap (λ r. r.if1) c.row-r.ensures in
-    let o = sym (ap (λ f. octets (format_of f) t) c.enum_told-1.given.1) in
+    let o = sym (ap (λ f. octets (format_of f) t) c.in-If1.is) in
     (e ∙ o, omega (arith, octets-most t c.requires if1))
 
 pub returns-in-If2 : goal.returns-in-If2
 returns-in-If2 c =
     let t = c.args.t in
     let e = ap (λ r. r.if2) c.row-r.ensures in
-    let o = sym (ap (λ f. octets (format_of f) t) c.enum_told-in-If2-1.given.1) in
+    let o = sym (ap (λ f. octets (format_of f) t) c.in-If2.is) in
     (e ∙ o, omega (arith, octets-most t c.requires if2))
 
 pub returns-in-Storage : goal.returns-in-Storage
 returns-in-Storage c =
     let t = c.args.t in
     let e = ap (λ r. r.storage) c.row-r.ensures in
-    let o = sym (ap (λ f. octets (format_of f) t) c.enum_told-in-Storage-1.given.1) in
+    let o = sym (ap (λ f. octets (format_of f) t) c.in-Storage.is) in
     (e ∙ o, omega (arith, octets-most t c.requires storage))

@@ -7,8 +7,8 @@ use Rattle.report_program.proofs.text.report_text.Goals as goal
 
 pub returns-in-Counts : goal.returns-in-Counts
 returns-in-Counts c =
-    (c.counts_text.ensures.0, c.counts_text.ensures.1 ∙ ap report_text (sym (ap reported_of c.a-1.given.1) ∙ c.report_recording-a.ensures))
+    (c.counts_text.ensures.0, c.counts_text.ensures.1 ∙ ap report_text (sym (ap reported_of c.in-Counts.is) ∙ c.report_recording-a.ensures))
 
 pub returns-in-Refused : goal.returns-in-Refused
 returns-in-Refused c =
-    (c.refusal_text.ensures.0, c.refusal_text.ensures.1 ∙ ap report_text (sym (ap reported_of c.a-in-Refused-1.given.1) ∙ c.report_recording-a.ensures))
+    (c.refusal_text.ensures.0, c.refusal_text.ensures.1 ∙ ap report_text (sym (ap reported_of c.in-Refused.is) ∙ c.report_recording-a.ensures))
