@@ -33,19 +33,19 @@ core_fill_clear-requires c = (c.if-core-k.false, omega (arith, c.core_bits-k.ens
 
 pub returns-then-not-core_fill_clear : goal.returns-then-not-core_fill_clear
 returns-then-not-core_fill_clear c =
-    let a = c.args in core_filling a.mode a.core.now a.room c.if-mode-gt-HIGHEST_MODE.false (size-there c) (sym (fill_there c) ∙ not-true _ c.if-not-core_fill_clear.true)
+    let a = c.args in core_filling a.mode a.core.now a.room c.if-mode-gt-HIGHEST_MODE.false (size-there c) (sym (fill_there c) ∙ c.if-not-core_fill_clear.true)
 
 pub returns-then-mode-gt-HIGHEST_ORDERED : goal.returns-then-mode-gt-HIGHEST_ORDERED
 returns-then-mode-gt-HIGHEST_ORDERED c =
-    let a = c.args in core-unordered a.mode a.core.now a.room c.if-mode-gt-HIGHEST_MODE.false (size-there c) (sym (fill_there c) ∙ not-false _ c.if-not-core_fill_clear.false) c.if-mode-gt-HIGHEST_ORDERED.true
+    let a = c.args in core-unordered a.mode a.core.now a.room c.if-mode-gt-HIGHEST_MODE.false (size-there c) (sym (fill_there c) ∙ c.if-not-core_fill_clear.false) c.if-mode-gt-HIGHEST_ORDERED.true
 
 pub returns-then-room-k : goal.returns-then-room-k
 returns-then-room-k c =
-    let a = c.args in row_short a.mode a.core.now a.room c.if-mode-gt-HIGHEST_MODE.false (size-there c) (sym (fill_there c) ∙ not-false _ c.if-not-core_fill_clear.false) c.if-mode-gt-HIGHEST_ORDERED.false (omega (arith, c.core_bits-k.ensures.0))
+    let a = c.args in row_short a.mode a.core.now a.room c.if-mode-gt-HIGHEST_MODE.false (size-there c) (sym (fill_there c) ∙ c.if-not-core_fill_clear.false) c.if-mode-gt-HIGHEST_ORDERED.false (omega (arith, c.core_bits-k.ensures.0))
 
 pub returns : goal.returns
 returns c =
     let a = c.args in
     let k = c.core_bits-k.ensures.0 in
     ap ok k
-    ∙ row_fits a.mode a.core.now a.room c.if-mode-gt-HIGHEST_MODE.false (size-there c) (sym (fill_there c) ∙ not-false _ c.if-not-core_fill_clear.false) c.if-mode-gt-HIGHEST_ORDERED.false (omega arith)
+    ∙ row_fits a.mode a.core.now a.room c.if-mode-gt-HIGHEST_MODE.false (size-there c) (sym (fill_there c) ∙ c.if-not-core_fill_clear.false) c.if-mode-gt-HIGHEST_ORDERED.false (omega arith)

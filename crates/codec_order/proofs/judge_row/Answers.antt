@@ -23,19 +23,19 @@ returns-then-row-k c =
 
 pub returns-then-not-zero_or_one : goal.returns-then-not-zero_or_one
 returns-then-not-zero_or_one c =
-    let a = c.args in row_value a.mode a.row.now a.room c.if-mode-gt-HIGHEST_MODE.false (size-there c) (sym c.zero_or_one.ensures ∙ not-true _ c.if-not-zero_or_one.true)
+    let a = c.args in row_value a.mode a.row.now a.room c.if-mode-gt-HIGHEST_MODE.false (size-there c) (sym c.zero_or_one.ensures ∙ c.if-not-zero_or_one.true)
 
 pub returns-then-mode-gt-HIGHEST_ORDERED : goal.returns-then-mode-gt-HIGHEST_ORDERED
 returns-then-mode-gt-HIGHEST_ORDERED c =
-    let a = c.args in row-unordered a.mode a.row.now a.room c.if-mode-gt-HIGHEST_MODE.false (size-there c) (sym c.zero_or_one.ensures ∙ not-false _ c.if-not-zero_or_one.false) c.if-mode-gt-HIGHEST_ORDERED.true
+    let a = c.args in row-unordered a.mode a.row.now a.room c.if-mode-gt-HIGHEST_MODE.false (size-there c) (sym c.zero_or_one.ensures ∙ c.if-not-zero_or_one.false) c.if-mode-gt-HIGHEST_ORDERED.true
 
 pub returns-then-room-m : goal.returns-then-room-m
 returns-then-room-m c =
-    let a = c.args in core_short a.mode a.row.now a.room c.if-mode-gt-HIGHEST_MODE.false (size-there c) (sym c.zero_or_one.ensures ∙ not-false _ c.if-not-zero_or_one.false) c.if-mode-gt-HIGHEST_ORDERED.false (omega (arith, c.core_bits-k.ensures.0))
+    let a = c.args in core_short a.mode a.row.now a.room c.if-mode-gt-HIGHEST_MODE.false (size-there c) (sym c.zero_or_one.ensures ∙ c.if-not-zero_or_one.false) c.if-mode-gt-HIGHEST_ORDERED.false (omega (arith, c.core_bits-k.ensures.0))
 
 pub returns : goal.returns
 returns c =
     let a = c.args in
     let k = c.core_bits-k.ensures.0 in
     ap (λ k. ok (octets_for k)) k
-    ∙ core_fits a.mode a.row.now a.room c.if-mode-gt-HIGHEST_MODE.false (size-there c) (sym c.zero_or_one.ensures ∙ not-false _ c.if-not-zero_or_one.false) c.if-mode-gt-HIGHEST_ORDERED.false (omega arith)
+    ∙ core_fits a.mode a.row.now a.room c.if-mode-gt-HIGHEST_MODE.false (size-there c) (sym c.zero_or_one.ensures ∙ c.if-not-zero_or_one.false) c.if-mode-gt-HIGHEST_ORDERED.false (omega arith)

@@ -9,12 +9,12 @@ pub returns-then-c-gt-HIGHEST_RFCI : goal.returns-then-c-gt-HIGHEST_RFCI
 returns-then-c-gt-HIGHEST_RFCI c = rfci_high c.args.c c.if-c-gt-HIGHEST_RFCI.true
 
 pub returns-then-not-link_type : goal.returns-then-not-link_type
-returns-then-not-link_type c = type_wrong c.args.c c.if-c-gt-HIGHEST_RFCI.false (sym c.link_type.ensures ∙ not-true _ c.if-not-link_type.true)
+returns-then-not-link_type c = type_wrong c.args.c c.if-c-gt-HIGHEST_RFCI.false (sym c.link_type.ensures ∙ c.if-not-link_type.true)
 
 pub core_bits-requires : goal.core_bits-requires
-core_bits-requires c = link-type-below _ (sym c.link_type.ensures ∙ not-false _ c.if-not-link_type.false)
+core_bits-requires c = link-type-below _ (sym c.link_type.ensures ∙ c.if-not-link_type.false)
 
 pub returns : goal.returns
 returns c =
     sum_tells c.args.c c.if-c-gt-HIGHEST_RFCI.false
-    (sym c.link_type.ensures ∙ not-false _ c.if-not-link_type.false) c.core_bits.result c.core_bits.ensures.0
+    (sym c.link_type.ensures ∙ c.if-not-link_type.false) c.core_bits.result c.core_bits.ensures.0

@@ -19,13 +19,13 @@ pub returns-then-not-is_roomy : goal.returns-then-not-is_roomy
 returns-then-not-is_roomy c =
     let a = c.args in
     let found = ap (found_of 16) (sym c.in-Is.is) ∙ c.lookup_type.ensures in
-    refused_into _ a.s1.now a.s2.now a.s3.now _ (frame_short a.link a.h a.frame.now _ _ _ _ found c.requires (sym c.is_roomy.ensures ∙ not-true _ c.if-not-is_roomy.true))
+    refused_into _ a.s1.now a.s2.now a.s3.now _ (frame_short a.link a.h a.frame.now _ _ _ _ found c.requires (sym c.is_roomy.ensures ∙ c.if-not-is_roomy.true))
 
 pub put_subflows-requires : goal.put_subflows-requires
 put_subflows-requires c =
     let a = c.args in
     let found = ap (found_of 16) (sym c.in-Is.is) ∙ c.lookup_type.ensures in
-    (c.header_bits.ensures.1, bits-there a.link a.h a.frame.now _ 0 0 0 found c.requires _ c.header_bits.ensures.0, sym c.is_roomy.ensures ∙ not-false _ c.if-not-is_roomy.false)
+    (c.header_bits.ensures.1, bits-there a.link a.h a.frame.now _ 0 0 0 found c.requires _ c.header_bits.ensures.0, sym c.is_roomy.ensures ∙ c.if-not-is_roomy.false)
 
 pub returns : goal.returns
 returns c =
@@ -33,4 +33,4 @@ returns c =
     let found = ap (found_of 16) (sym c.in-Is.is) ∙ c.lookup_type.ensures in
     let w = c.subflows_of.ensures a.link (core_in if1 a.h.frame_type (bits a.frame.now)) refl (core-whole a.link a.h a.frame.now _ 0 0 0 found c.requires) in
     frame_into a.link a.h a.frame.now _ _ _ _ found c.requires _ a.s1.now _ a.s2.now _ a.s3.now _ c.subflows_of.result c.header_bits.ensures.0
-    (sym c.is_roomy.ensures ∙ not-false _ c.if-not-is_roomy.false) c.put_subflows.ensures w
+    (sym c.is_roomy.ensures ∙ c.if-not-is_roomy.false) c.put_subflows.ensures w

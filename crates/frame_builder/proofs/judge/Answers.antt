@@ -63,26 +63,26 @@ pub returns-then-not-core_fill_clear : goal.returns-then-not-core_fill_clear
 returns-then-not-core_fill_clear c =
     let a = c.args in
     fill_wrong (format_of a.f) a.t a.q a.i a.r a.core.now a.room (measured_there c)
-    (sym (fill_there c) ∙ not-true _ c.if-not-core_fill_clear.true)
+    (sym (fill_there c) ∙ c.if-not-core_fill_clear.true)
 
 pub returns-then-not-core_fields_good : goal.returns-then-not-core_fields_good
 returns-then-not-core_fields_good c =
     let a = c.args in
     fields_wrong (format_of a.f) a.t a.q a.i a.r a.core.now a.room (measured_there c)
-    (sym (fill_there c) ∙ not-false _ c.if-not-core_fill_clear.false) (sym (fields_there c) ∙ not-true _ c.if-not-core_fields_good.true)
+    (sym (fill_there c) ∙ c.if-not-core_fill_clear.false) (sym (fields_there c) ∙ c.if-not-core_fields_good.true)
 
 -- refusal 6's test is passed
 good-there : (c : tie.Else6)
     → let a = c.before.before.before.before.before.before.before.before.before.before.before.args in
     fields_good (format_of a.f) (frame_of a.t a.q a.i a.r a.core.now) ≡ true
-good-there c = sym (fields_there c.before) ∙ not-false _ c.if6.false
+good-there c = sym (fields_there c.before) ∙ c.if6.false
 
 pub returns-then-room-n : goal.returns-then-room-n
 returns-then-room-n c =
     let a = c.args in
     let n = c.octets_of-n in
     output_short (format_of a.f) a.t a.q a.i a.r a.core.now a.room (measured_there c)
-    (sym (fill_there c) ∙ not-false _ c.if-not-core_fill_clear.false) (good-there c) n.result n.ensures.0 c.if-room-n.true
+    (sym (fill_there c) ∙ c.if-not-core_fill_clear.false) (good-there c) n.result n.ensures.0 c.if-room-n.true
 
 pub overflow_cast-h-3 : goal.overflow_cast-h-3
 overflow_cast-h-3 c = let g = modes_fit _ _ (good-there c) in omega arith
@@ -95,4 +95,4 @@ returns c =
     let a = c.args in
     let n = c.octets_of-n in
     builds (format_of a.f) a.t a.q a.i a.r a.core.now a.room (measured_there c)
-    (sym (fill_there c) ∙ not-false _ c.if-not-core_fill_clear.false) (good-there c) n.result n.ensures.0 c.if-room-n.false
+    (sym (fill_there c) ∙ c.if-not-core_fill_clear.false) (good-there c) n.result n.ensures.0 c.if-room-n.false

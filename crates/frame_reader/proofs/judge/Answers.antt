@@ -35,7 +35,7 @@ whole-there c = record {
   type_known = known-there c.before.before.before;
   size_is = c.before.before.before.before.octets-of.ensures.0;
   enough = c.before.before.if3.false;
-  ending = sym c.before.ends.ensures ∙ not-false _ c.if4.false;
+  ending = sym c.before.ends.ensures ∙ c.if4.false;
 }
 
 -- the header's frame is the frame that is read
@@ -77,7 +77,7 @@ returns-then-not-ends c =
     let ty = c.type_in-t in
     let n = c.octets_of-n in
     refuses_4 a.single (format_of a.f) a.s.now ty.result n.result (omega arith) ty.ensures (known-there c) n.ensures.0
-    c.if-s-n.false (sym c.ends.ensures ∙ not-true _ c.if-not-ends.true)
+    c.if-s-n.false (sym c.ends.ensures ∙ c.if-not-ends.true)
 
 pub spare_clear-requires : goal.spare_clear-requires
 spare_clear-requires c =
@@ -87,7 +87,7 @@ spare_clear-requires c =
 pub returns-then-not-spare_clear : goal.returns-then-not-spare_clear
 returns-then-not-spare_clear c =
     let a = c.args in
-    refuses_5 a.single (format_of a.f) a.s.now _ _ (whole-there c) (sym c.spare_clear.ensures ∙ not-true _ c.if-not-spare_clear.true)
+    refuses_5 a.single (format_of a.f) a.s.now _ _ (whole-there c) (sym c.spare_clear.ensures ∙ c.if-not-spare_clear.true)
 
 pub header_in-h-requires : goal.header_in-h-requires
 header_in-h-requires c =
@@ -104,8 +104,8 @@ returns-then-not-header_good c =
     let a = c.args in
     let f = format_of a.f in
     refuses_6 a.single f a.s.now _ _ (whole-there c)
-    (sym c.spare_clear.ensures ∙ not-false _ c.if-not-spare_clear.false)
-    (sym (c.header_good.ensures ∙ ap (fields_good f) (header-there c).1) ∙ not-true _ c.if-not-header_good.true)
+    (sym c.spare_clear.ensures ∙ c.if-not-spare_clear.false)
+    (sym (c.header_good.ensures ∙ ap (fields_good f) (header-there c).1) ∙ c.if-not-header_good.true)
 
 pub crc_good-requires : goal.crc_good-requires
 crc_good-requires c =
@@ -117,9 +117,9 @@ returns-then-not-crc_good c =
     let a = c.args in
     let f = format_of a.f in
     refuses_7 a.single f a.s.now _ _ (whole-there c)
-    (sym c.spare_clear.ensures ∙ not-false _ c.if-not-spare_clear.false)
-    (sym (c.header_good.ensures ∙ ap (fields_good f) (header-there c).1) ∙ not-false _ c.if-not-header_good.false)
-    (sym c.crc_good.ensures ∙ not-true _ c.if-not-crc_good.true)
+    (sym c.spare_clear.ensures ∙ c.if-not-spare_clear.false)
+    (sym (c.header_good.ensures ∙ ap (fields_good f) (header-there c).1) ∙ c.if-not-header_good.false)
+    (sym c.crc_good.ensures ∙ c.if-not-crc_good.true)
 
 pub returns : goal.returns
 returns c =
@@ -128,6 +128,6 @@ returns c =
     let n = c.octets_of-n.result in
     ap (λ x. ok (x, n)) (header-there c).1
     ∙ reads a.single f a.s.now _ _ (whole-there c)
-    (sym c.spare_clear.ensures ∙ not-false _ c.if-not-spare_clear.false)
-    (sym (c.header_good.ensures ∙ ap (fields_good f) (header-there c).1) ∙ not-false _ c.if-not-header_good.false)
-    (sym c.crc_good.ensures ∙ not-false _ c.if-not-crc_good.false)
+    (sym c.spare_clear.ensures ∙ c.if-not-spare_clear.false)
+    (sym (c.header_good.ensures ∙ ap (fields_good f) (header-there c).1) ∙ c.if-not-header_good.false)
+    (sym c.crc_good.ensures ∙ c.if-not-crc_good.false)

@@ -62,7 +62,7 @@ returns-then-sid_fine c =
       no_modes = ap (carries_modes (format_of a.f)) (sym t.ensures) ∙ sym c.carries_modes.ensures ∙ c.if-carries_modes.false;
       size = c.octets_of-size.ensures.0 ∙ ap (octets (format_of a.f)) t.ensures;
       enough = c.if-s-size.false;
-      spare = sym c.spare_clear.ensures ∙ not-false _ c.if-not-spare_clear.false;
+      spare = sym c.spare_clear.ensures ∙ c.if-not-spare_clear.false;
       sid = subst (λ t. t ≡ 9 → num 4 (drop 36 (core_in (format_of a.f) t (bits a.s.now))) ≤ 8) t.ensures (c.sid_fine.ensures c.if-sid_fine.true);
     }
 

@@ -9,8 +9,8 @@ use Rattle.level_one.proofs.amrwb_convert_length.Goals as goal
 
 pub returns-then-not-both_here : goal.returns-then-not-both_here
 returns-then-not-both_here c =
-    let a = c.args in c.counts_answer.ensures ∙ sym (ap (λ b. placed_numbers (unless_at 11 b (length_call a.from a.to a.request a.rec.now))) (sym c.both_here.ensures ∙ not-true _ c.if-not-both_here.true))
+    let a = c.args in c.counts_answer.ensures ∙ sym (ap (λ b. placed_numbers (unless_at 11 b (length_call a.from a.to a.request a.rec.now))) (sym c.both_here.ensures ∙ c.if-not-both_here.true))
 
 pub returns : goal.returns
 returns c =
-    let a = c.args in c.counts_answer-2.ensures ∙ ap placed_numbers (c.convert_length.ensures ∙ sym (ap (λ b. unless_at 11 b (length_call a.from a.to a.request a.rec.now)) (sym c.both_here.ensures ∙ not-false _ c.if-not-both_here.false)))
+    let a = c.args in c.counts_answer-2.ensures ∙ ap placed_numbers (c.convert_length.ensures ∙ sym (ap (λ b. unless_at 11 b (length_call a.from a.to a.request a.rec.now)) (sym c.both_here.ensures ∙ c.if-not-both_here.false)))

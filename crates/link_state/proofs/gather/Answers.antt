@@ -41,7 +41,7 @@ returns-then-not-is_apart c =
     let a = c.args in
     let l = c.loop-k in
     let t = turned c in
-    (turn_not_apart a.ns.now a.n c.requires.0 c.requires.1 l.k l.places c.loop-k-test.true l.invariant.0 l.invariant.1 l.invariant.2 _ t.0 (ap combination_good t.0 ∙ t.1) c.is_apart.result c.is_apart.ensures (not-true _ c.if-not-is_apart.true), false-true)
+    (turn_not_apart a.ns.now a.n c.requires.0 c.requires.1 l.k l.places c.loop-k-test.true l.invariant.0 l.invariant.1 l.invariant.2 _ t.0 (ap combination_good t.0 ∙ t.1) c.is_apart.result c.is_apart.ensures c.if-not-is_apart.true, false-true)
 
 pub loop-k-preserved : goal.loop-k-preserved
 loop-k-preserved c =
@@ -50,7 +50,7 @@ loop-k-preserved c =
     let t = turned c in (
       omega arith,
       turn_stored a.ns.now a.n c.requires.0 c.requires.1 l.k l.places c.loop-k-test.true l.invariant.0 l.invariant.1 l.invariant.2 _ t.0,
-      turn_good a.ns.now a.n c.requires.0 c.requires.1 l.k l.places c.loop-k-test.true l.invariant.0 l.invariant.1 l.invariant.2 _ t.0 (ap combination_good t.0 ∙ t.1) c.is_apart.result c.is_apart.ensures (not-false _ c.if-not-is_apart.false),
+      turn_good a.ns.now a.n c.requires.0 c.requires.1 l.k l.places c.loop-k-test.true l.invariant.0 l.invariant.1 l.invariant.2 _ t.0 (ap combination_good t.0 ∙ t.1) c.is_apart.result c.is_apart.ensures c.if-not-is_apart.false,
     )
 
 pub returns : goal.returns

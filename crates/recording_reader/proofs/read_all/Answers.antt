@@ -12,12 +12,12 @@ returns-then-s-gt-LIMIT c =
 
 pub returns-then-not-headed : goal.returns-then-not-headed
 returns-then-not-headed c =
-    λ r. let a = c.args in not_headed (format_of a.f) (format_of a.g) r a.s.now c.if-s-gt-LIMIT.false (sym c.headed.ensures ∙ not-true _ c.if-not-headed.true)
+    λ r. let a = c.args in not_headed (format_of a.f) (format_of a.g) r a.s.now c.if-s-gt-LIMIT.false (sym c.headed.ensures ∙ c.if-not-headed.true)
 
 pub scan_frames-requires : goal.scan_frames-requires
 scan_frames-requires c =
-    let a = c.args in (header-there (format_of a.f) a.s.now (sym c.headed.ensures ∙ not-false _ c.if-not-headed.false), c.if-s-gt-LIMIT.false)
+    let a = c.args in (header-there (format_of a.f) a.s.now (sym c.headed.ensures ∙ c.if-not-headed.false), c.if-s-gt-LIMIT.false)
 
 pub returns : goal.returns
 returns c =
-    λ r. let a = c.args in c.scan_frames.ensures r ∙ scanned (format_of a.f) (format_of a.g) r a.s.now c.if-s-gt-LIMIT.false (sym c.headed.ensures ∙ not-false _ c.if-not-headed.false)
+    λ r. let a = c.args in c.scan_frames.ensures r ∙ scanned (format_of a.f) (format_of a.g) r a.s.now c.if-s-gt-LIMIT.false (sym c.headed.ensures ∙ c.if-not-headed.false)

@@ -11,13 +11,13 @@ pub returns-then-s-gt-REPORT_LIMIT : goal.returns-then-s-gt-REPORT_LIMIT
 returns-then-s-gt-REPORT_LIMIT c = too_long c.args.s.now c.if-s-gt-REPORT_LIMIT.true
 
 pub returns-then-not-headed : goal.returns-then-not-headed
-returns-then-not-headed c = not_headed c.args.s.now c.if-s-gt-REPORT_LIMIT.false (sym c.has_file_header-headed.ensures ∙ not-true _ c.if-not-headed.true)
+returns-then-not-headed c = not_headed c.args.s.now c.if-s-gt-REPORT_LIMIT.false (sym c.has_file_header-headed.ensures ∙ c.if-not-headed.true)
 
 pub count_frames-requires : goal.count_frames-requires
 count_frames-requires c =
-    (header-there storage c.args.s.now (sym c.has_file_header-headed.ensures ∙ not-false _ c.if-not-headed.false), c.if-s-gt-REPORT_LIMIT.false)
+    (header-there storage c.args.s.now (sym c.has_file_header-headed.ensures ∙ c.if-not-headed.false), c.if-s-gt-REPORT_LIMIT.false)
 
 pub returns : goal.returns
 returns c =
     c.count_frames.ensures
-    ∙ scanned c.args.s.now c.if-s-gt-REPORT_LIMIT.false (sym c.has_file_header-headed.ensures ∙ not-false _ c.if-not-headed.false)
+    ∙ scanned c.args.s.now c.if-s-gt-REPORT_LIMIT.false (sym c.has_file_header-headed.ensures ∙ c.if-not-headed.false)

@@ -58,7 +58,7 @@ core_fields_good-requires c = length-take-le _ _ (within c) ∙ c.core_octets-m.
 pub returns-then-not-core_fields_good : goal.returns-then-not-core_fields_good
 returns-then-not-core_fields_good c =
     let a = c.args in
-    refused-up _ a.out.now _ (written-refused (up_frame a.request a.fqc a.c a.s1.now a.s2.now a.s3.now) _ (sym (tested c) ∙ not-true _ c.if-not-core_fields_good.true))
+    refused-up _ a.out.now _ (written-refused (up_frame a.request a.fqc a.c a.s1.now a.s2.now a.s3.now) _ (sym (tested c) ∙ c.if-not-core_fields_good.true))
 
 pub overflow_add-n : goal.overflow_add-n
 overflow_add-n c = omega (arith, within c, c.join.auto.core)
@@ -66,17 +66,17 @@ overflow_add-n c = omega (arith, within c, c.join.auto.core)
 pub returns-then-out-n : goal.returns-then-out-n
 returns-then-out-n c =
     let a = c.args in
-    refused-up _ a.out.now _ (written_short (up_frame a.request a.fqc a.c a.s1.now a.s2.now a.s3.now) _ _ (sym (tested c) ∙ not-false _ c.if-not-core_fields_good.false) (counted-there c) c.if-out-n.true)
+    refused-up _ a.out.now _ (written_short (up_frame a.request a.fqc a.c a.s1.now a.s2.now a.s3.now) _ _ (sym (tested c) ∙ c.if-not-core_fields_good.false) (counted-there c) c.if-out-n.true)
 
 pub overflow_cast-h : goal.overflow_cast-h
 overflow_cast-h c =
     let a = c.args in
-    omega (arith, (modes_low a.request a.fqc a.c a.s1.now a.s2.now a.s3.now c.requires.0 c.requires.1 c.requires.2 (sym (tested c) ∙ not-false _ c.if-not-core_fields_good.false)).1)
+    omega (arith, (modes_low a.request a.fqc a.c a.s1.now a.s2.now a.s3.now c.requires.0 c.requires.1 c.requires.2 (sym (tested c) ∙ c.if-not-core_fields_good.false)).1)
 
 pub write_modes-requires : goal.write_modes-requires
 write_modes-requires c =
     let a = c.args in (
-      writable a.request a.fqc a.c a.s1.now a.s2.now a.s3.now c.requires.0 c.requires.1 c.requires.2 _ _ _ a.out.now _ c.quality_of.ensures.1 c.indication_of-i.ensures (sym (tested c) ∙ not-false _ c.if-not-core_fields_good.false) c.join.auto.core (counted-there c) c.if-out-n.false,
+      writable a.request a.fqc a.c a.s1.now a.s2.now a.s3.now c.requires.0 c.requires.1 c.requires.2 _ _ _ a.out.now _ c.quality_of.ensures.1 c.indication_of-i.ensures (sym (tested c) ∙ c.if-not-core_fields_good.false) c.join.auto.core (counted-there c) c.if-out-n.false,
       le-leb a.c.frame_type 9 c.requires.1,
     )
 
@@ -84,5 +84,5 @@ pub returns : goal.returns
 returns c =
     let a = c.args in
     let same = frame_is a.request a.fqc a.c a.s1.now a.s2.now a.s3.now c.requires.0 c.requires.1 c.requires.2 _ _ _ c.quality_of.ensures.0 c.indication_of-i.ensures (run_core a.request a.fqc a.c a.s1.now a.s2.now a.s3.now c.requires.0 c.requires.1 c.requires.2 _ _ c.join.ensures) in
-    written_into (up_frame a.request a.fqc a.c a.s1.now a.s2.now a.s3.now) a.out.now _ _ (sym (tested c) ∙ not-false _ c.if-not-core_fields_good.false) (type_known a.request a.fqc a.c a.s1.now a.s2.now a.s3.now c.requires.0 c.requires.1 c.requires.2) (core_long a.request a.fqc a.c a.s1.now a.s2.now a.s3.now c.requires.0 c.requires.1 c.requires.2) (counted-there c) c.if-out-n.false
+    written_into (up_frame a.request a.fqc a.c a.s1.now a.s2.now a.s3.now) a.out.now _ _ (sym (tested c) ∙ c.if-not-core_fields_good.false) (type_known a.request a.fqc a.c a.s1.now a.s2.now a.s3.now c.requires.0 c.requires.1 c.requires.2) (core_long a.request a.fqc a.c a.s1.now a.s2.now a.s3.now c.requires.0 c.requires.1 c.requires.2) (counted-there c) c.if-out-n.false
     (c.write_modes.ensures ∙ ap (λ x. layout if1 x ++ drop (octets if1 a.c.frame_type) a.out.now) same)

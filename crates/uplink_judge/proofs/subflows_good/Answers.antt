@@ -6,15 +6,15 @@ use Rattle.uplink_judge.proofs.JudgeLaws.{first_wrong, second_wrong, third_tells
 use Rattle.uplink_judge.proofs.subflows_good.Goals as goal
 
 pub returns-then-not-subflow_good : goal.returns-then-not-subflow_good
-returns-then-not-subflow_good c = let a = c.args in first_wrong a.c a.s1.now a.s2.now a.s3.now (sym c.subflow_good.ensures ∙ not-true _ c.if-not-subflow_good.true)
+returns-then-not-subflow_good c = let a = c.args in first_wrong a.c a.s1.now a.s2.now a.s3.now (sym c.subflow_good.ensures ∙ c.if-not-subflow_good.true)
 
 pub returns-then-not-subflow_good-2 : goal.returns-then-not-subflow_good-2
 returns-then-not-subflow_good-2 c =
     let a = c.args in
-    second_wrong a.c a.s1.now a.s2.now a.s3.now (sym c.subflow_good.ensures ∙ not-false _ c.if-not-subflow_good.false) (sym c.subflow_good-2.ensures ∙ not-true _ c.if-not-subflow_good-2.true)
+    second_wrong a.c a.s1.now a.s2.now a.s3.now (sym c.subflow_good.ensures ∙ c.if-not-subflow_good.false) (sym c.subflow_good-2.ensures ∙ c.if-not-subflow_good-2.true)
 
 pub returns : goal.returns
 returns c =
     let a = c.args in
     c.subflow_good-3.ensures
-    ∙ third_tells a.c a.s1.now a.s2.now a.s3.now (sym c.subflow_good.ensures ∙ not-false _ c.if-not-subflow_good.false) (sym c.subflow_good-2.ensures ∙ not-false _ c.if-not-subflow_good-2.false)
+    ∙ third_tells a.c a.s1.now a.s2.now a.s3.now (sym c.subflow_good.ensures ∙ c.if-not-subflow_good.false) (sym c.subflow_good-2.ensures ∙ c.if-not-subflow_good-2.false)

@@ -29,7 +29,7 @@ returns-then-not-headed c =
     let f = c.f-1.given in
     sym
     (open_not_headed a.format a.rec.now (format_of f.0.0) (found_is a.format n.result f.0.0 n.ensures f.1) c.if-rec-gt-LIMIT.false
-    (sym c.headed.ensures ∙ not-true _ c.if-not-headed.true))
+    (sym c.headed.ensures ∙ c.if-not-headed.true))
 
 pub returns : goal.returns
 returns c =
@@ -38,4 +38,4 @@ returns c =
     let f = c.f-1.given in
     sym
     (open_first a.format a.rec.now (format_of f.0.0) (found_is a.format n.result f.0.0 n.ensures f.1) _ c.if-rec-gt-LIMIT.false
-    (sym c.headed.ensures ∙ not-false _ c.if-not-headed.false) c.header_octets.ensures.0)
+    (sym c.headed.ensures ∙ c.if-not-headed.false) c.header_octets.ensures.0)

@@ -22,11 +22,11 @@ returns-then-not-sid_good c =
     λ q core sid.
     let a = c.args in
     sid_wrong (format_of a.f) a.t q a.i a.r a.mode core sid c.if-i-gt-HIGHEST_MODE.false c.if-r-gt-HIGHEST_MODE.false
-    c.sid_good.result c.sid_good.ensures (not-true _ c.if-not-sid_good.true)
+    c.sid_good.result c.sid_good.ensures c.if-not-sid_good.true
 
 pub returns : goal.returns
 returns c =
     λ q core sid.
     let a = c.args in
     fields_right (format_of a.f) a.t q a.i a.r a.mode core sid c.if-i-gt-HIGHEST_MODE.false c.if-r-gt-HIGHEST_MODE.false
-    c.sid_good.result c.sid_good.ensures (not-false _ c.if-not-sid_good.false) c.uncarried_zero.result c.uncarried_zero.ensures
+    c.sid_good.result c.sid_good.ensures c.if-not-sid_good.false c.uncarried_zero.result c.uncarried_zero.ensures
