@@ -1,5 +1,4 @@
 -- `downlink::down` meets its contract: the state after the call goes by its answer. Assumes nothing.
-use borrow.Author.Rules.{rules}
 use mathlib.Core.Path.{refl, ap, ◌∙◌}
 use lib.ListN.{length}
 use Rattle.links.specs.Calls.{down_call}

@@ -1,5 +1,4 @@
 -- `downlink::forwarded_after` meets its contract, case by case. Assumes nothing.
-use borrow.Author.Rules.{rules}
 use mathlib.Core.Path.{sym, ap, ◌∙◌}
 use Rattle.links.specs.Calls.{link_by, recorded}
 use Rattle.downlink_flows.specs.Answers.{forward_of}

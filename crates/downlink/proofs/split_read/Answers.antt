@@ -1,7 +1,5 @@
 -- `downlink::split_read` meets its contract: the combination of the frame's type splits its core. Assumes nothing.
-use borrow.Author.Rules.{rules}
 use mathlib.Core.Path.{refl, sym, ap, ◌∙◌}
-use borrow.Author.Tests.{not-true, not-false}
 use Rattle.bits.specs.Bits.{bits}
 use Rattle.definitions.specs.Frames.{if1, core_in}
 use Rattle.frame.specs.Answers.{frame_with}
