@@ -1,5 +1,4 @@
 -- `down_answer` meets its contract, case by case. Assumes nothing.
-use borrow.Author.Rules.{rules}
 use mathlib.Core.Path.{sym, ap, ◌∙◌}
 use Rattle.definitions.specs.Outcome.{refused}
 use Rattle.downlink.specs.Answers.{down_of}

@@ -1,5 +1,4 @@
 -- `moved_answer` meets its contract. Assumes nothing.
-use borrow.Author.Rules.{rules}
 use mathlib.Core.Path.{ap}
 use Rattle.link_answers.specs.declared.LinkAnswer.{LinkAnswer}
 use Rattle.link_answers.proofs.moved_answer.Goals as goal
