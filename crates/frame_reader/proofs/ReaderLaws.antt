@@ -13,7 +13,7 @@ use Rattle.definitions.specs.Frames.{Format, known, octets, type_in, quality_in,
 use Rattle.definitions.specs.Reading.{read_with}
 use Rattle.frame.specs.Answers.{frame_with}
 use Rattle.frame.specs.declared.FrameHeader.{FrameHeader}
-use Rattle.frame.proofs.TableLaws.{type-below, no_octets_reserved}
+use Rattle.frame.proofs.TableLaws.{type-below, no_octets_reserved, octets_not_reserved}
 use Rattle.definitions.proofs.Frames.{type-frame, frame_path}
 use Rattle.frame_reader.specs.Buffer.{Plain}
 use Rattle.frame_tests.proofs.TestLaws.{no_crc}
@@ -24,6 +24,10 @@ pub header-same : (f : Format) (bs : List Bool) (h : FrameHeader) (t : ℕ) → 
 header-same f bs h t et e =
     let same : h.frame_type ≡ t = ap (λ x. x.type) e ∙ type-frame f bs ∙ sym et in
     (same, ap (λ u. frame_with h (core_in f u bs)) same ∙ e)
+
+-- a type that has octets is known
+pub known-there : (f : Format) (s : List ℕ) (t n : ℕ) → t ≡ type_in f (bits s) → n ≡ octets f t → (n ≡ 0 → ⊥) → known t ≡ true
+known-there f s t n et en z = octets_not_reserved f t (omega (arith, type-below f (bits s))) (λ e. z (en ∙ e))
 
 -- ---- the chain
 

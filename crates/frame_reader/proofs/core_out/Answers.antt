@@ -1,5 +1,4 @@
 -- `frame_reader::core_out` meets its contract: the core is the run of K bits behind the header. Assumes nothing.
-use borrow.Author.Rules.{rules}
 use mathlib.Core.Path.{sym, ap₂, ◌∙◌}
 use Prim.Native.Nat.{◌+◌}
 use native.Mathlib.Omega.{arith}

@@ -1,53 +1,31 @@
 -- `frame_reader::judge` meets its contract: each test is the definition's, and they are made in its order. Assumes nothing.
-use borrow.Author.Rules.{rules}
 use mathlib.Core.Path.{◌≡◌, sym, ap, ◌∙◌}
-use mathlib.Core.Bool.{true}
-use Prim.Native.Nat.{◌<◌}
 use native.Mathlib.Omega.{arith}
-use borrow.Author.Tests.{not-true, not-false}
 use Rattle.bits.specs.Bits.{bits}
 use Rattle.definitions.specs.Outcome.{ok}
-use Rattle.definitions.specs.Frames.{known, core_in, frame_in, fields_good}
+use Rattle.definitions.specs.Frames.{core_in, frame_in, fields_good}
 use Rattle.frame.specs.Answers.{format_of, frame_with}
-use Rattle.frame.proofs.TableLaws.{type-below, octets_not_reserved}
-use Rattle.frame_reader.proofs.ReaderLaws.{Whole, header-same, refuses_1, refuses_2, refuses_3, refuses_4, refuses_5, refuses_6, refuses_7, reads}
+use Rattle.frame.proofs.TableLaws.{type-below}
+use Rattle.frame_reader.proofs.ReaderLaws.{Whole, known-there, header-same, refuses_1, refuses_2, refuses_3, refuses_4, refuses_5, refuses_6, refuses_7, reads}
+use Rattle.frame_reader.proofs.judge.Goals.{Else-not-ends, After-header_in-h}
 use Rattle.frame_reader.proofs.judge.Goals as goal
 
--- the type is below 16, and known once its octets are not 0
-type-lt : (c : tie.After-type-in) → c.type-in.result < 16
-type-lt c = let a = c.before.before.before.args in omega (arith, c.type-in.ensures, type-below (format_of a.f) (bits a.s.now))
-
-known-there : (c : tie.Else2) → known c.before.before.type-in.result ≡ true
-known-there c =
-    let a = c.before.before.before.before.before.args in
-    octets_not_reserved (format_of a.f) c.before.before.type-in.result (type-lt c.before.before) (λ z. c.if2.false (c.before.octets-of.ensures.0 ∙ z))
-
 -- once the first four tests are passed
-abbrev WholeAt : tie.Else4 → Type 0
-WholeAt c =
-    let a = c.before.before.before.before.before.before.before.before.args in
-    Whole a.single (format_of a.f) a.s.now c.before.before.before.before.before.type-in.result c.before.before.before.before.octets-of.result
-
-whole-there : (c : tie.Else4) → WholeAt c
+whole-there : (c : Else-not-ends) → Whole c.args.single (format_of c.args.f) c.args.s.now c.type_in-t.result c.octets_of-n.result
 whole-there c = record {
   some = omega arith;
-  type_is = c.before.before.before.before.before.type-in.ensures;
-  type_known = known-there c.before.before.before;
-  size_is = c.before.before.before.before.octets-of.ensures.0;
-  enough = c.before.before.if3.false;
-  ending = sym c.before.ends.ensures ∙ c.if4.false;
+  type_is = c.type_in-t.ensures;
+  type_known = known-there (format_of c.args.f) c.args.s.now _ _ c.type_in-t.ensures c.octets_of-n.ensures.0 c.if-n-eq0.false;
+  size_is = c.octets_of-n.ensures.0;
+  enough = c.if-s-n.false;
+  ending = sym c.ends.ensures ∙ c.if-not-ends.false;
 }
 
 -- the header's frame is the frame that is read
-header-there : (c : tie.After-header-in)
-    → let a = c.before.before.before.before.before.before.before.before.before.before.before.args in
-    let h = c.header-in.result in
-    (h.frame_type ≡ c.before.before.before.before.before.before.before.before.type-in.result)
-    × (frame_with h (core_in (format_of a.f) h.frame_type (bits a.s.now)) ≡ frame_in (format_of a.f) (bits a.s.now))
-header-there c =
-    let a = c.before.before.before.before.before.before.before.before.before.before.before.args in
-    let ty = c.before.before.before.before.before.before.before.before.type-in in
-    header-same (format_of a.f) (bits a.s.now) c.header-in.result ty.result ty.ensures c.header-in.ensures
+header-there : (c : After-header_in-h)
+    → (c.header_in-h.result.frame_type ≡ c.type_in-t.result)
+    × (frame_with c.header_in-h.result (core_in (format_of c.args.f) c.header_in-h.result.frame_type (bits c.args.s.now)) ≡ frame_in (format_of c.args.f) (bits c.args.s.now))
+header-there c = header-same (format_of c.args.f) (bits c.args.s.now) c.header_in-h.result c.type_in-t.result c.type_in-t.ensures c.header_in-h.ensures
 
 pub returns-then-s-eq0 : goal.returns-then-s-eq0
 returns-then-s-eq0 c =
@@ -55,7 +33,7 @@ returns-then-s-eq0 c =
     refuses_1 a.single (format_of a.f) a.s.now c.if-s-eq0.true
 
 pub octets_of-n-requires : goal.octets_of-n-requires
-octets_of-n-requires c = type-lt c
+octets_of-n-requires c = omega (arith, c.type_in-t.ensures, type-below (format_of c.args.f) (bits c.args.s.now))
 
 pub returns-then-n-eq0 : goal.returns-then-n-eq0
 returns-then-n-eq0 c =
@@ -69,56 +47,56 @@ returns-then-s-n c =
     let a = c.args in
     let ty = c.type_in-t in
     let n = c.octets_of-n in
-    refuses_3 a.single (format_of a.f) a.s.now ty.result n.result (omega arith) ty.ensures (known-there c) n.ensures.0 c.if-s-n.true
+    refuses_3 a.single (format_of a.f) a.s.now ty.result n.result (omega arith) ty.ensures (known-there (format_of c.args.f) c.args.s.now _ _ ty.ensures n.ensures.0 c.if-n-eq0.false) n.ensures.0 c.if-s-n.true
 
 pub returns-then-not-ends : goal.returns-then-not-ends
 returns-then-not-ends c =
     let a = c.args in
     let ty = c.type_in-t in
     let n = c.octets_of-n in
-    refuses_4 a.single (format_of a.f) a.s.now ty.result n.result (omega arith) ty.ensures (known-there c) n.ensures.0
+    refuses_4 a.single (format_of a.f) a.s.now ty.result n.result (omega arith) ty.ensures (known-there (format_of c.args.f) c.args.s.now _ _ ty.ensures n.ensures.0 c.if-n-eq0.false) n.ensures.0
     c.if-s-n.false (sym c.ends.ensures ∙ c.if-not-ends.true)
 
 pub spare_clear-requires : goal.spare_clear-requires
 spare_clear-requires c =
-    let w = whole-there c in
+    let w = whole-there (goal.at.spare_clear-requires c).Else-not-ends in
     (w.type_is, w.type_known, w.size_is, w.enough)
 
 pub returns-then-not-spare_clear : goal.returns-then-not-spare_clear
 returns-then-not-spare_clear c =
     let a = c.args in
-    refuses_5 a.single (format_of a.f) a.s.now _ _ (whole-there c) (sym c.spare_clear.ensures ∙ c.if-not-spare_clear.true)
+    refuses_5 a.single (format_of a.f) a.s.now _ _ (whole-there (goal.at.returns-then-not-spare_clear c).Else-not-ends) (sym c.spare_clear.ensures ∙ c.if-not-spare_clear.true)
 
 pub header_in-h-requires : goal.header_in-h-requires
 header_in-h-requires c =
-    let w = whole-there c in
+    let w = whole-there (goal.at.header_in-h-requires c).Else-not-ends in
     (w.type_is, w.type_known, rw w.size_is at w.enough)
 
 pub header_good-requires : goal.header_good-requires
 header_good-requires c =
-    let w = whole-there c in
-    rw (header-there c).0 (rw w.size_is at w.enough)
+    let w = whole-there (goal.at.header_good-requires c).Else-not-ends in
+    rw (header-there (goal.at.header_good-requires c).After-header_in-h).0 (rw w.size_is at w.enough)
 
 pub returns-then-not-header_good : goal.returns-then-not-header_good
 returns-then-not-header_good c =
     let a = c.args in
     let f = format_of a.f in
-    refuses_6 a.single f a.s.now _ _ (whole-there c)
+    refuses_6 a.single f a.s.now _ _ (whole-there (goal.at.returns-then-not-header_good c).Else-not-ends)
     (sym c.spare_clear.ensures ∙ c.if-not-spare_clear.false)
-    (sym (c.header_good.ensures ∙ ap (fields_good f) (header-there c).1) ∙ c.if-not-header_good.true)
+    (sym (c.header_good.ensures ∙ ap (fields_good f) (header-there (goal.at.returns-then-not-header_good c).After-header_in-h).1) ∙ c.if-not-header_good.true)
 
 pub crc_good-requires : goal.crc_good-requires
 crc_good-requires c =
-    let w = whole-there c in
+    let w = whole-there (goal.at.crc_good-requires c).Else-not-ends in
     (w.type_is, w.type_known, rw w.size_is at w.enough)
 
 pub returns-then-not-crc_good : goal.returns-then-not-crc_good
 returns-then-not-crc_good c =
     let a = c.args in
     let f = format_of a.f in
-    refuses_7 a.single f a.s.now _ _ (whole-there c)
+    refuses_7 a.single f a.s.now _ _ (whole-there (goal.at.returns-then-not-crc_good c).Else-not-ends)
     (sym c.spare_clear.ensures ∙ c.if-not-spare_clear.false)
-    (sym (c.header_good.ensures ∙ ap (fields_good f) (header-there c).1) ∙ c.if-not-header_good.false)
+    (sym (c.header_good.ensures ∙ ap (fields_good f) (header-there (goal.at.returns-then-not-crc_good c).After-header_in-h).1) ∙ c.if-not-header_good.false)
     (sym c.crc_good.ensures ∙ c.if-not-crc_good.true)
 
 pub returns : goal.returns
@@ -126,8 +104,8 @@ returns c =
     let a = c.args in
     let f = format_of a.f in
     let n = c.octets_of-n.result in
-    ap (λ x. ok (x, n)) (header-there c).1
-    ∙ reads a.single f a.s.now _ _ (whole-there c)
+    ap (λ x. ok (x, n)) (header-there (goal.at.returns c).After-header_in-h).1
+    ∙ reads a.single f a.s.now _ _ (whole-there (goal.at.returns c).Else-not-ends)
     (sym c.spare_clear.ensures ∙ c.if-not-spare_clear.false)
-    (sym (c.header_good.ensures ∙ ap (fields_good f) (header-there c).1) ∙ c.if-not-header_good.false)
+    (sym (c.header_good.ensures ∙ ap (fields_good f) (header-there (goal.at.returns c).After-header_in-h).1) ∙ c.if-not-header_good.false)
     (sym c.crc_good.ensures ∙ c.if-not-crc_good.false)

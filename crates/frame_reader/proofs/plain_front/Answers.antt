@@ -1,5 +1,4 @@
 -- `frame_reader::plain_front` meets its contract: each call is made where the format is that one. Assumes nothing.
-use borrow.Author.Rules.{rules}
 use mathlib.Core.Path.{sym, subst}
 use Prim.Native.Nat.{◌<◌}
 use Rattle.frame.specs.Answers.{format_of}

@@ -1,5 +1,4 @@
 -- `frame_reader::read_frame` meets its contract: the format, the frame and its core are judged one after the other. Assumes nothing.
-use borrow.Author.Rules.{rules}
 use Rattle.frame_reader.proofs.CallLaws.{unknown_format, refused-frame, known-there, frame-out}
 use Rattle.frame_reader.proofs.read_frame.Goals as goal
 
@@ -12,26 +11,23 @@ pub returns-in_default-r : goal.returns-in_default-r
 returns-in_default-r c =
     let a = c.args in
     let n = c.format_numbered in
-    let f = c.f-1.given in
     let r = c.read_single-r in
-    refused-frame a.format a.s.now a.core.now n.result n.ensures f.0.0 f.1 r.result r.ensures c.in_default-r.field-0 c.in_default-r.is
+    refused-frame a.format a.s.now a.core.now n.result n.ensures c.in-Is.f c.in-Is.is r.result r.ensures c.in_default-r.field-0 c.in_default-r.is
 
 pub core_out-requires : goal.core_out-requires
 core_out-requires c =
     let a = c.args in
     let n = c.format_numbered in
-    let f = c.f-1.given in
     let r = c.read_single-r in
-    let h = c.r-1.given in
-    known-there a.format a.s.now a.core.now n.result n.ensures f.0.0 f.1 r.result r.ensures h.0.0 h.0.1.0 h.1
+    let h = c.in-Frame in
+    known-there a.format a.s.now a.core.now n.result n.ensures c.in-Is.f c.in-Is.is r.result r.ensures h.h h.field-1 h.is
 
 pub returns : goal.returns
 returns c =
     let a = c.args in
     let n = c.format_numbered in
-    let f = c.f-1.given in
     let r = c.read_single-r in
-    let h = c.r-1.given in
+    let h = c.in-Frame in
     let o = c.core_out in
-    frame-out a.format a.s.now a.core.now n.result n.ensures f.0.0 f.1 r.result r.ensures h.0.0 h.0.1.0 h.1
+    frame-out a.format a.s.now a.core.now n.result n.ensures c.in-Is.f c.in-Is.is r.result r.ensures h.h h.field-1 h.is
     o.new.core o.result o.ensures

@@ -1,5 +1,4 @@
 -- `frame_reader::read_front` meets its contract: a plain frame is what the reader shows. Assumes nothing.
-use borrow.Author.Rules.{rules}
 use mathlib.Core.Path.{refl}
 use Rattle.frame.specs.Answers.{format_of}
 use Rattle.frame_reader.proofs.ReaderLaws.{plain_reads}

@@ -1,5 +1,4 @@
 -- `frame_tests::crc_good` meets its contract: Class A is the core's beginning, behind three octets. Assumes nothing.
-use borrow.Author.Rules.{rules}
 use mathlib.Core.Path.{sym, ◌∙◌}
 use native.Mathlib.Omega.{arith}
 use lib.ListN.{length, drop, length-drop}
@@ -15,10 +14,10 @@ pub slice_bounds-core-count : goal.slice_bounds-core-count
 slice_bounds-core-count c =
     let m = modes_carried (format_of c.args.f) c.args.t c.requires.1 (sym c.carries_modes.ensures ∙ c.if-carries_modes.true) in
     omega arith
--- TODO no such goal: part-core-start : tie.Need-slice-bounds-core-start
-part-core-start c =
-    let start = c.before.before.before in
-    let m = modes_carried (format_of start.args.f) start.args.t start.requires.1 (sym c.before.carries-modes.ensures ∙ c.if1.true) in
+
+pub slice_bounds-core-start : goal.slice_bounds-core-start
+slice_bounds-core-start c =
+    let m = modes_carried (format_of c.args.f) c.args.t c.requires.1 (sym c.carries_modes.ensures ∙ c.if-carries_modes.true) in
     omega arith
 
 pub field_at-requires : goal.field_at-requires

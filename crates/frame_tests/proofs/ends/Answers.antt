@@ -1,5 +1,4 @@
 -- `frame_tests::ends` meets its contract, by the flag. Assumes nothing.
-use borrow.Author.Rules.{rules}
 use mathlib.Core.Path.{sym, ap}
 use mathlib.Core.Bool.{not, ◌||◌}
 use lib.Dec.{leb}

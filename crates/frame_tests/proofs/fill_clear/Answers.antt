@@ -1,5 +1,4 @@
 -- `frame_tests::fill_clear` meets its contract: the filling is the last bits of the frame's last octet. Assumes nothing.
-use borrow.Author.Rules.{rules}
 use native.Mathlib.Omega.{arith}
 use Rattle.definitions.proofs.Tables.{sized}
 use Rattle.frame.specs.Answers.{format_of}

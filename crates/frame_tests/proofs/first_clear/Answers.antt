@@ -1,5 +1,4 @@
 -- `frame_tests::first_clear` meets its contract: each format has its mask. Assumes nothing.
-use borrow.Author.Rules.{rules}
 use mathlib.Core.Path.{sym, ap, ◌∙◌}
 use mathlib.Core.Bool.{◌&&◌}
 use Prim.Native.Nat.{◌+◌}

@@ -1,5 +1,4 @@
 -- `frame_tests::header_good` meets its contract: the SID mode is read where the type is 9, and does not count elsewhere. Assumes nothing.
-use borrow.Author.Rules.{rules}
 use mathlib.Core.Path.{sym, ap, ◌∙◌}
 use lib.ListN.{drop}
 use Rattle.bits.specs.Bits.{num, bits}

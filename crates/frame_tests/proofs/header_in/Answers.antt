@@ -1,5 +1,4 @@
 -- `frame_tests::header_in` meets its contract, field by field. Assumes nothing.
-use borrow.Author.Rules.{rules}
 use mathlib.Core.Path.{ap, ◌∙◌}
 use native.Mathlib.Omega.{arith}
 use Rattle.bits.specs.Bits.{num, bits}

@@ -1,5 +1,4 @@
 -- `frame_tests::mode_in` meets its contract: a frame that carries modes has four octets or more. Assumes nothing.
-use borrow.Author.Rules.{rules}
 use mathlib.Core.Path.{sym, ap, ◌∙◌}
 use mathlib.Core.Bool.{cond}
 use native.Mathlib.Omega.{arith}

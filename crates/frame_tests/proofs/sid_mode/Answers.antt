@@ -1,5 +1,4 @@
 -- `frame_tests::sid_mode` meets its contract: the core of a SID frame has 40 bits. Assumes nothing.
-use borrow.Author.Rules.{rules}
 use mathlib.Core.Path.{ap, ◌∙◌}
 use Prim.Native.Nat.{◌+◌}
 use native.Mathlib.Omega.{arith}
