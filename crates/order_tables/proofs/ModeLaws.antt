@@ -2,7 +2,7 @@
 use mathlib.Core.Path.{◌≡◌, refl, sym, ap, ◌∙◌, subst}
 use mathlib.Core.Bool.{true}
 use mathlib.Core.List.{List}
-use Prim.Native.Nat.{ℕ, zero, suc, ◌*◌, ◌≤◌}
+use Prim.Native.Nat.{ℕ, ◌*◌, ◌≤◌}
 use native.Mathlib.Omega.{arith}
 use lib.ListN.{length, take}
 use Rattle.bits.specs.Bits.{bits, pack, octets_for}
@@ -15,13 +15,6 @@ use Rattle.order_tables.specs.Ready.{RowReady, CoreReady, with_core, with_row}
 
 pub permutes_as : (m k : ℕ) (table : List ℕ) → m ≤ 4 → k ≡ core_bits m → order_table m ≡ table → Permutes k table
 permutes_as m k table h e t = subst (λ k. Permutes k table) (sym e) (subst (Permutes (core_bits m)) t (tables_permute.each m h))
-
-pub last_mode : (m : ℕ) → m ≤ 4 → (m ≡ 0 → ⊥) → (m ≡ 1 → ⊥) → (m ≡ 2 → ⊥) → (m ≡ 3 → ⊥) → m ≡ 4
-last_mode zero h n₀ n₁ n₂ n₃ = absurd (n₀ refl)
-last_mode (suc zero) h n₀ n₁ n₂ n₃ = absurd (n₁ refl)
-last_mode (suc (suc zero)) h n₀ n₁ n₂ n₃ = absurd (n₂ refl)
-last_mode (suc (suc (suc zero))) h n₀ n₁ n₂ n₃ = absurd (n₃ refl)
-last_mode (suc (suc (suc (suc m)))) h n₀ n₁ n₂ n₃ = omega arith
 
 module _ (m : ℕ) (table : List ℕ) (t : order_table m ≡ table) where
   pub core_asked : (row core : List ℕ) → RowReady m row core

@@ -1,7 +1,5 @@
 -- `combinations::combination_good` meets its contract: each test is the definition's. Assumes nothing.
-use borrow.Author.Rules.{rules}
 use mathlib.Core.Path.{sym, ◌∙◌}
-use borrow.Author.Tests.{not-true, not-false}
 use Rattle.combinations.proofs.CombinationLaws.{link-type-below, rfci_high, type_wrong, sum_tells}
 use Rattle.combinations.proofs.combination_good.Goals as goal
 

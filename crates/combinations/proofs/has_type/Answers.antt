@@ -1,5 +1,4 @@
 -- `combinations::has_type` meets its contract. Assumes nothing.
-use borrow.Author.Rules.{rules}
 use mathlib.Core.Path.{sym, ap, ◌∙◌}
 use mathlib.Core.Bool.{◌&&◌}
 use borrow.Author.Tests.{eq-eqb, ne_eqb}

@@ -1,5 +1,4 @@
 -- `combinations::reached` meets its contract. Assumes nothing.
-use borrow.Author.Rules.{rules}
 use native.Mathlib.Omega.{arith}
 use Rattle.combinations.proofs.CombinationLaws.{take_beyond}
 use Rattle.combinations.proofs.reached.Goals as goal

@@ -1,12 +1,8 @@
 -- `combinations::type_in` meets its contract: what is left of the places tells the answer. Assumes nothing.
-use borrow.Author.Rules.{rules}
-use mathlib.Core.Path.{◌≡◌, refl, sym, ap, ◌∙◌}
+use mathlib.Core.Path.{◌≡◌}
 use Prim.Native.Nat.{◌≤◌, ◌-◌}
-use native.Mathlib.Omega.{arith}
-use lib.ListN.{length}
-use lib.Seq.{slice, slice_empty}
-use Rattle.links.specs.Sets.{combination, by_type, lookup}
-use Rattle.combinations.proofs.CombinationLaws.{lookup-found, lookup_next}
+use lib.Seq.{slice}
+use Rattle.links.specs.Sets.{by_type, lookup}
 use Rattle.combinations.proofs.type_in.Given as goal
 
 abbrev pub invariant-loop-i : goal.invariant-loop-i

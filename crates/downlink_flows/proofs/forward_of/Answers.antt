@@ -1,5 +1,4 @@
 -- `downlink_flows::forward_of` meets its contract. Assumes nothing.
-use borrow.Author.Rules.{rules}
 use mathlib.Core.Path.{sym, ◌∙◌}
 use Rattle.downlink_flows.proofs.FlowLaws.{forwards_it, forwards-nothing}
 use Rattle.downlink_flows.proofs.forward_of.Goals as goal

@@ -1,5 +1,4 @@
 -- `downlink_flows::is_forwarded` meets its contract. Assumes nothing.
-use borrow.Author.Rules.{rules}
 use Rattle.downlink_flows.proofs.FlowLaws.{forwards-none, forwards_other}
 use Rattle.downlink_flows.proofs.is_forwarded.Goals as goal
 

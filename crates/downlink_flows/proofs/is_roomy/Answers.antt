@@ -1,5 +1,4 @@
 -- `downlink_flows::is_roomy` meets its contract: each test is the definition's. Assumes nothing.
-use borrow.Author.Rules.{rules}
 use Rattle.downlink_flows.proofs.FlowLaws.{short1, short2, last_tells}
 use Rattle.downlink_flows.proofs.is_roomy.Goals as goal
 

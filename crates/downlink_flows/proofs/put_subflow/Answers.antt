@@ -1,5 +1,4 @@
 -- `downlink_flows::put_subflow` meets its contract. Assumes nothing.
-use borrow.Author.Rules.{rules}
 use Rattle.bits.specs.Bits.{bits}
 use Rattle.downlink_flows.proofs.FlowLaws.{run_put, none-put}
 use Rattle.downlink_flows.proofs.put_subflow.Goals as goal

@@ -1,5 +1,4 @@
 -- `downlink_flows::put_subflows` meets its contract: each sub-flow is put into the front of its buffer. Assumes nothing.
-use borrow.Author.Rules.{rules}
 use mathlib.Core.Path.{ap, ◌∙◌}
 use mathlib.Core.List.{◌++◌}
 use Prim.Native.Nat.{◌+◌}

@@ -1,5 +1,4 @@
 -- `downlink_flows::subflows_of` meets its contract: what is answered is counted from the sub-flows' sizes. Assumes nothing.
-use borrow.Author.Rules.{rules}
 use mathlib.Core.Path.{sym, ap, ◌∙◌}
 use mathlib.Core.Bool.{cond}
 use Rattle.frame.specs.Answers.{frame_with}

@@ -1,5 +1,4 @@
 -- `link_state::assign` meets its contract: what is gathered and good is stored, where there is no set. Assumes nothing.
-use borrow.Author.Rules.{rules}
 use mathlib.Core.Path.{◌≡◌, sym, ap, ap₂, ◌∙◌}
 use mathlib.Core.Bool.{true}
 use Prim.Native.Nat.{◌/◌}
@@ -27,18 +26,18 @@ pub returns-then-not-g : goal.returns-then-not-g
 returns-then-not-g c =
     let a = c.args in
     c.refused-then-not-g.ensures
-    ∙ step_refused a.link a.rows.now 11 (not_good a.link a.rows.now c.if-rows-ne0.false (omega arith) c.if-n-gt-PLACES.false (sym c.gather-g.ensures.0 ∙ c.if-not-g.true))
+    ∙ step_refused a.link a.rows.now 11 (not_good a.link a.rows.now c.if-rows-ne0.false (omega arith) c.if-n-gt-PLACES.false (sym c.gather-g.ensures.0 ∙ not-true _ c.if-not-g.true))
 
 pub returns-then-link-gt0 : goal.returns-then-link-gt0
 returns-then-link-gt0 c =
     let a = c.args in
     c.refused-then-link-gt0.ensures
-    ∙ step_refused a.link a.rows.now 15 (set_there a.link a.rows.now c.if-rows-ne0.false (omega arith) c.if-n-gt-PLACES.false (sym c.gather-g.ensures.0 ∙ c.if-not-g.false) c.if-link-gt0.true)
+    ∙ step_refused a.link a.rows.now 15 (set_there a.link a.rows.now c.if-rows-ne0.false (omega arith) c.if-n-gt-PLACES.false (sym c.gather-g.ensures.0 ∙ not-false _ c.if-not-g.false) c.if-link-gt0.true)
 
 pub returns : goal.returns
 returns c =
     let a = c.args in
-    let g : c.gather-g.result.good ≡ true = c.if-not-g.false in
+    let g : c.gather-g.result.good ≡ true = not-false _ c.if-not-g.false in
     let n = length-in_fives (length a.rows.now / 5) a.rows.now (omega arith) in
     let s = ap₂ {C = RfcSet} (λ ps k. record { places = ps; count = k }) (c.gather-g.ensures.1 g) (sym n) in
     ap (λ (l : Link). (accepted, l)) (c.with_set.ensures ∙ ap (λ (s : RfcSet). link_by s a.link.request a.link.forwarded) s)

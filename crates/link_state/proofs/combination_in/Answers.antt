@@ -1,5 +1,4 @@
 -- `link_state::combination_in` meets its contract: a number out of its range makes no good combination. Assumes nothing.
-use borrow.Author.Rules.{rules}
 use mathlib.Core.Path.{sym, ◌∙◌}
 use native.Mathlib.Omega.{arith}
 use Rattle.link_state.specs.Answers.{five_at}

@@ -1,5 +1,4 @@
 -- `link_state::fresh` meets its contract. Assumes nothing.
-use borrow.Author.Rules.{rules}
 use mathlib.Core.Path.{ap}
 use Rattle.links.specs.Calls.{link_by}
 use Rattle.link_state.proofs.fresh.Goals as goal

@@ -1,24 +1,15 @@
 -- `link_state::gather` meets its contract: what stands behind combination k is good, and stored in its places. Assumes nothing.
-use borrow.Author.Rules.{rules}
 use mathlib.Core.Path.{◌≡◌, refl, sym, ap, ◌∙◌}
-use mathlib.Core.Bool.{true}
-use Prim.Native.Nat.{◌-◌, ◌*◌, ◌≤◌}
+use Prim.Native.Nat.{◌-◌, ◌*◌}
 use native.Mathlib.Nat.{le_refl}
 use native.Mathlib.Omega.{arith}
 use lib.ListN.{drop, replicate, drop_of_length-le}
-use borrow.Author.Tests.{not-true, not-false}
 use Rattle.links.specs.Sets.{combination_good, all_good}
 use Rattle.links.specs.Calls.{in_fives}
 use Rattle.combinations.specs.Answers.{found_of}
 use Rattle.link_state.specs.Answers.{five_at}
 use Rattle.link_state.proofs.GatherLaws.{stored, length-in_fives, none_stored, given_is, given_not, turn_wrong, turn_not_apart, turn_good, turn_stored, gathered, false-true}
 use Rattle.link_state.proofs.gather.Goals as goal
-
--- what the loop's turn has of its combination
-turned : (c : tie.After-is-apart invariant-loop decreases-loop) → let a = c.before.before.before.before.before.before.before.before.before.args in (c.before.before.f.given.0.0 ≡ five_at a.ns.now (5 * (c.before.before.before.before.before.before.loop.k - 1))) × (combination_good (five_at a.ns.now (5 * (c.before.before.before.before.before.before.loop.k - 1))) ≡ true)
-turned c =
-    let a = c.before.before.before.before.before.before.before.before.before.args in
-    given_is (five_at a.ns.now (5 * (c.before.before.before.before.before.before.loop.k - 1))) c.before.before.f.given.0.0 (ap (found_of 11) (sym c.before.before.f.given.1) ∙ c.before.before.before.before.combination-in.ensures)
 
 pub loop-k-init : goal.loop-k-init
 loop-k-init c =
@@ -40,14 +31,14 @@ pub returns-then-not-is_apart : goal.returns-then-not-is_apart
 returns-then-not-is_apart c =
     let a = c.args in
     let l = c.loop-k in
-    let t = turned c in
+    let t = given_is (five_at a.ns.now (5 * (l.k - 1))) c.in-Is.c (ap (found_of 11) (sym c.in-Is.is) ∙ c.combination_in-f.ensures) in
     (turn_not_apart a.ns.now a.n c.requires.0 c.requires.1 l.k l.places c.loop-k-test.true l.invariant.0 l.invariant.1 l.invariant.2 _ t.0 (ap combination_good t.0 ∙ t.1) c.is_apart.result c.is_apart.ensures c.if-not-is_apart.true, false-true)
 
 pub loop-k-preserved : goal.loop-k-preserved
 loop-k-preserved c =
     let a = c.args in
     let l = c.loop-k in
-    let t = turned c in (
+    let t = given_is (five_at a.ns.now (5 * (l.k - 1))) c.in-Is.c (ap (found_of 11) (sym c.in-Is.is) ∙ c.combination_in-f.ensures) in (
       omega arith,
       turn_stored a.ns.now a.n c.requires.0 c.requires.1 l.k l.places c.loop-k-test.true l.invariant.0 l.invariant.1 l.invariant.2 _ t.0,
       turn_good a.ns.now a.n c.requires.0 c.requires.1 l.k l.places c.loop-k-test.true l.invariant.0 l.invariant.1 l.invariant.2 _ t.0 (ap combination_good t.0 ∙ t.1) c.is_apart.result c.is_apart.ensures c.if-not-is_apart.false,

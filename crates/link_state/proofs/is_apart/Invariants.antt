@@ -1,12 +1,8 @@
 -- `link_state::is_apart` meets its contract: what is left of the places tells the answer. Assumes nothing.
-use borrow.Author.Rules.{rules}
-use mathlib.Core.Path.{◌≡◌, refl, sym, ap, ◌∙◌}
+use mathlib.Core.Path.{◌≡◌}
 use Prim.Native.Nat.{◌≤◌, ◌-◌}
-use native.Mathlib.Omega.{arith}
-use lib.ListN.{length}
-use lib.Seq.{slice, slice_empty}
-use Rattle.links.specs.Sets.{combination, apart}
-use Rattle.link_state.proofs.StateLaws.{apart-same-rfci, apart-same-type, apart_next}
+use lib.Seq.{slice}
+use Rattle.links.specs.Sets.{apart}
 use Rattle.link_state.proofs.is_apart.Given as goal
 
 abbrev pub invariant-loop-i : goal.invariant-loop-i

@@ -1,5 +1,4 @@
 -- `link_state::no_set` meets its contract: every place is 0. Assumes nothing.
-use borrow.Author.Rules.{rules}
 use mathlib.Core.Path.{ap}
 use Rattle.links.specs.declared.Combination.{Combination}
 use lib.ListN.{replicate}

@@ -1,5 +1,4 @@
 -- `link_state::rate_command` meets its contract. Assumes nothing.
-use borrow.Author.Rules.{rules}
 use mathlib.Core.Path.{◌∙◌}
 use borrow.Author.Tests.{le-leb, lt-leb}
 use Rattle.links.specs.Calls.{rate_call}

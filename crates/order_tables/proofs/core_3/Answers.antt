@@ -1,6 +1,5 @@
 -- `order_tables::core_3` meets its contract: the table is the one of mode 3. Assumes nothing.
 use mathlib.Core.Path.{refl}
-use borrow.Author.Rules.{rules}
 use Rattle.definitions.specs.Tables.{table3}
 use Rattle.definitions.specs.Order.{order_table}
 use Rattle.order_tables.proofs.ModeLaws.{core_asked, core-put}

@@ -1,8 +1,7 @@
 -- `order_tables::put_core` meets its contract: each mode has its own function. Assumes nothing.
-use mathlib.Core.Path.{sym, ap, ◌∙◌, subst}
-use borrow.Author.Rules.{rules}
+use native.Mathlib.Omega.{arith}
+use mathlib.Core.Path.{◌≡◌, sym, ap, ◌∙◌, subst}
 use Rattle.order_tables.specs.Ready.{RowReady, with_core}
-use Rattle.order_tables.proofs.ModeLaws.{last_mode}
 use Rattle.order_tables.proofs.put_core.Goals as goal
 
 pub core_0-requires : goal.core_0-requires
@@ -23,24 +22,24 @@ core_3-requires c =
 
 pub core_4-requires : goal.core_4-requires
 core_4-requires c =
-    subst (λ m. RowReady m c.args.row.now c.args.core.now) (last_mode _ c.requires.has_order c.in_default.in_default-own.rest.0.0.0.1 c.in_default.in_default-own.rest.0.0.1 c.in_default.in_default-own.rest.0.1 c.in_default.in_default-own.rest.1) c.requires
+    subst (λ m. RowReady m c.args.row.now c.args.core.now) (let e : c.args.mode ≡ 4 = omega (arith, c.requires.has_order) in e) c.requires
 
 pub returns-in-0 : goal.returns-in-0
 returns-in-0 c =
-    c.before.before.core-0.ensures ∙ ap (λ m. with_core m c.args.row.now c.args.core.now) (sym c.in-0.is)
+    c.core_0.ensures ∙ ap (λ m. with_core m c.args.row.now c.args.core.now) (sym c.in-0.is)
 
 pub returns-in-1 : goal.returns-in-1
 returns-in-1 c =
-    c.before.before.core-1.ensures ∙ ap (λ m. with_core m c.args.row.now c.args.core.now) (sym c.in-1.is)
+    c.core_1.ensures ∙ ap (λ m. with_core m c.args.row.now c.args.core.now) (sym c.in-1.is)
 
 pub returns-in-2 : goal.returns-in-2
 returns-in-2 c =
-    c.before.before.core-2.ensures ∙ ap (λ m. with_core m c.args.row.now c.args.core.now) (sym c.in-2.is)
+    c.core_2.ensures ∙ ap (λ m. with_core m c.args.row.now c.args.core.now) (sym c.in-2.is)
 
 pub returns-in-3 : goal.returns-in-3
 returns-in-3 c =
-    c.before.before.core-3.ensures ∙ ap (λ m. with_core m c.args.row.now c.args.core.now) (sym c.in-3.is)
+    c.core_3.ensures ∙ ap (λ m. with_core m c.args.row.now c.args.core.now) (sym c.in-3.is)
 
 pub returns-in_default : goal.returns-in_default
 returns-in_default c =
-    c.before.before.core-4.ensures ∙ ap (λ m. with_core m c.args.row.now c.args.core.now) (sym (last_mode _ c.requires.has_order c.in_default.in_default-own.rest.0.0.0.1 c.in_default.in_default-own.rest.0.0.1 c.in_default.in_default-own.rest.0.1 c.in_default.in_default-own.rest.1))
+    c.core_4.ensures ∙ ap (λ m. with_core m c.args.row.now c.args.core.now) (sym (let e : c.args.mode ≡ 4 = omega (arith, c.requires.has_order) in e))

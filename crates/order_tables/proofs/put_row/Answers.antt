@@ -1,8 +1,7 @@
 -- `order_tables::put_row` meets its contract: each mode has its own function. Assumes nothing.
-use mathlib.Core.Path.{sym, ap, ◌∙◌, subst}
-use borrow.Author.Rules.{rules}
+use mathlib.Core.Path.{◌≡◌, sym, ap, ◌∙◌, subst}
+use native.Mathlib.Omega.{arith}
 use Rattle.order_tables.specs.Ready.{CoreReady, with_row}
-use Rattle.order_tables.proofs.ModeLaws.{last_mode}
 use Rattle.order_tables.proofs.put_row.Goals as goal
 
 pub row_0-requires : goal.row_0-requires
@@ -23,24 +22,24 @@ row_3-requires c =
 
 pub row_4-requires : goal.row_4-requires
 row_4-requires c =
-    subst (λ m. CoreReady m c.args.core.now c.args.row.now) (last_mode _ c.requires.has_order c.in_default.in_default-own.rest.0.0.0.1 c.in_default.in_default-own.rest.0.0.1 c.in_default.in_default-own.rest.0.1 c.in_default.in_default-own.rest.1) c.requires
+    subst (λ m. CoreReady m c.args.core.now c.args.row.now) (let e : c.args.mode ≡ 4 = omega (arith, c.requires.has_order) in e) c.requires
 
 pub returns-in-0 : goal.returns-in-0
 returns-in-0 c =
-    c.before.before.row-0.ensures ∙ ap (λ m. with_row m c.args.core.now c.args.row.now) (sym c.in-0.is)
+    c.row_0.ensures ∙ ap (λ m. with_row m c.args.core.now c.args.row.now) (sym c.in-0.is)
 
 pub returns-in-1 : goal.returns-in-1
 returns-in-1 c =
-    c.before.before.row-1.ensures ∙ ap (λ m. with_row m c.args.core.now c.args.row.now) (sym c.in-1.is)
+    c.row_1.ensures ∙ ap (λ m. with_row m c.args.core.now c.args.row.now) (sym c.in-1.is)
 
 pub returns-in-2 : goal.returns-in-2
 returns-in-2 c =
-    c.before.before.row-2.ensures ∙ ap (λ m. with_row m c.args.core.now c.args.row.now) (sym c.in-2.is)
+    c.row_2.ensures ∙ ap (λ m. with_row m c.args.core.now c.args.row.now) (sym c.in-2.is)
 
 pub returns-in-3 : goal.returns-in-3
 returns-in-3 c =
-    c.before.before.row-3.ensures ∙ ap (λ m. with_row m c.args.core.now c.args.row.now) (sym c.in-3.is)
+    c.row_3.ensures ∙ ap (λ m. with_row m c.args.core.now c.args.row.now) (sym c.in-3.is)
 
 pub returns-in_default : goal.returns-in_default
 returns-in_default c =
-    c.before.before.row-4.ensures ∙ ap (λ m. with_row m c.args.core.now c.args.row.now) (sym (last_mode _ c.requires.has_order c.in_default.in_default-own.rest.0.0.0.1 c.in_default.in_default-own.rest.0.0.1 c.in_default.in_default-own.rest.0.1 c.in_default.in_default-own.rest.1))
+    c.row_4.ensures ∙ ap (λ m. with_row m c.args.core.now c.args.row.now) (sym (let e : c.args.mode ≡ 4 = omega (arith, c.requires.has_order) in e))

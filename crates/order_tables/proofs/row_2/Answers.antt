@@ -1,6 +1,5 @@
 -- `order_tables::row_2` meets its contract: the table is the one of mode 2. Assumes nothing.
 use mathlib.Core.Path.{refl}
-use borrow.Author.Rules.{rules}
 use Rattle.definitions.specs.Tables.{table2}
 use Rattle.definitions.specs.Order.{order_table}
 use Rattle.order_tables.proofs.ModeLaws.{row_asked, row_put}

@@ -1,14 +1,10 @@
 -- `ordering::core_by` meets its contract: an octet of the core is eight bits gathered, and the last is what is left, shifted up. Assumes nothing.
-use mathlib.Core.Path.{◌≡◌, refl, ap, ◌∙◌}
+use mathlib.Core.Path.{◌≡◌}
 use mathlib.Core.List.{◌++◌}
-use Prim.Native.Nat.{◌+◌, ◌-◌, ◌/◌, ◌%◌, ◌≤◌}
-use native.Mathlib.Omega.{arith}
-use borrow.Author.Rules.{rules}
-use lib.ListN.{length, drop, length-set}
+use Prim.Native.Nat.{◌-◌, ◌≤◌}
+use lib.ListN.{length, drop}
 use Rattle.bits.specs.Bits.{packs}
 use Rattle.definitions.specs.Order.{row_bits, ordered}
-use Rattle.definitions.proofs.Order.{length-ordered}
-use Rattle.ordering.proofs.OrderLaws.{core-none, core_more, last_octet, core-whole}
 use Rattle.ordering.proofs.core_by.Given as goal
 
 abbrev pub invariant-loop-j : goal.invariant-loop-j

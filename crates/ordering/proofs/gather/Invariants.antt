@@ -1,14 +1,9 @@
 -- `ordering::gather` meets its contract: each bit that is added is the next one that the table names. Assumes nothing.
-use mathlib.Core.Path.{◌≡◌, ap, ◌∙◌}
+use mathlib.Core.Path.{◌≡◌}
 use Prim.Native.Nat.{◌-◌, ◌≤◌}
-use native.Mathlib.Nat.{lt_trans}
-use native.Mathlib.Omega.{arith}
-use borrow.Author.Rules.{rules}
-use lib.Dec.{lit<}
 use lib.ListN.{drop}
 use Rattle.bits.specs.Bits.{num}
 use Rattle.definitions.specs.Order.{row_bits, ordered}
-use Rattle.ordering.proofs.OrderLaws.{num-none, Gathered, gathered}
 use Rattle.ordering.proofs.gather.Given as goal
 
 abbrev pub invariant-loop-i : goal.invariant-loop-i

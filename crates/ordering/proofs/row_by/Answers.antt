@@ -1,9 +1,7 @@
 -- `ordering::row_by` meets its contract: each bit is put where the table says, and no place is named twice. Assumes nothing.
 use mathlib.Core.Path.{sym, ap, ◌∙◌, subst}
-use Prim.Native.Nat.{◌-◌, ◌≤◌}
 use native.Mathlib.Nat.{lt_trans}
 use native.Mathlib.Omega.{arith}
-use borrow.Author.Rules.{rules}
 use lib.Dec.{lit<}
 use lib.ListN.{length, take}
 use lib.Seq.{get_or-take}

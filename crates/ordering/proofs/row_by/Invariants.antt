@@ -1,14 +1,8 @@
 -- `ordering::row_by` meets its contract: each bit is put where the table says, and no place is named twice. Assumes nothing.
-use mathlib.Core.Path.{sym, ap, ◌∙◌, subst}
 use Prim.Native.Nat.{◌-◌, ◌≤◌}
-use native.Mathlib.Nat.{lt_trans}
-use native.Mathlib.Omega.{arith}
-use borrow.Author.Rules.{rules}
-use lib.Dec.{lit<}
 use lib.ListN.{length, take}
-use lib.Seq.{get_or-take}
-use Rattle.bits.specs.Bits.{one_if, bits}
-use Rattle.ordering.proofs.OrderLaws.{byte_bit, Scattered, scattered_none, scattered_more, scattered_whole}
+use Rattle.bits.specs.Bits.{bits}
+use Rattle.ordering.proofs.OrderLaws.{Scattered}
 use Rattle.ordering.proofs.row_by.Given as goal
 
 abbrev pub invariant-loop-j : goal.invariant-loop-j

@@ -1,9 +1,7 @@
 -- `ordering::zero_or_one` meets its contract: the octets in front of the place reached are 0 or 1. Assumes nothing.
-use mathlib.Core.Path.{◌≡◌, refl, sym, ap, ◌∙◌}
-use Prim.Native.Nat.{◌-◌, ◌≤◌}
+use mathlib.Core.Path.{refl, sym, ap, ◌∙◌}
 use native.Mathlib.Omega.{arith}
-use borrow.Author.Rules.{rules}
-use lib.ListN.{length, drop, drop_of_length-le}
+use lib.ListN.{drop_of_length-le}
 use Rattle.definitions.specs.Order.{zero_or_one}
 use Rattle.ordering.proofs.OrderLaws.{zero-or_one_more, zero-or_one_less}
 use Rattle.ordering.proofs.zero_or_one.Goals as goal

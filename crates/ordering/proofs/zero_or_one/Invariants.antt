@@ -1,11 +1,8 @@
 -- `ordering::zero_or_one` meets its contract: the octets in front of the place reached are 0 or 1. Assumes nothing.
-use mathlib.Core.Path.{◌≡◌, refl, sym, ap, ◌∙◌}
+use mathlib.Core.Path.{◌≡◌}
 use Prim.Native.Nat.{◌-◌, ◌≤◌}
-use native.Mathlib.Omega.{arith}
-use borrow.Author.Rules.{rules}
-use lib.ListN.{length, drop, drop_of_length-le}
+use lib.ListN.{length, drop}
 use Rattle.definitions.specs.Order.{zero_or_one}
-use Rattle.ordering.proofs.OrderLaws.{zero-or_one_more, zero-or_one_less}
 use Rattle.ordering.proofs.zero_or_one.Given as goal
 
 abbrev pub invariant-loop-i : goal.invariant-loop-i
