@@ -1,6 +1,5 @@
 -- `reception::sid_class` meets its contract: by quality, and then by STI. Assumes nothing.
 use mathlib.Core.Path.{sym, ap, ap₂}
-use borrow.Author.Tests.{not-true, not-false}
 use Rattle.definitions.specs.Reception.{sid_class}
 use Rattle.reception.proofs.sid_class.Goals as goal
 
