@@ -1,5 +1,4 @@
 -- `frame_writer::first_octet` meets its contract, format by format. Assumes nothing.
-use borrow.Author.Rules.{rules}
 use Rattle.frame_writer.proofs.WriterLaws.{first_if, first_storage}
 use Rattle.frame_writer.proofs.first_octet.Goals as goal
 

@@ -1,5 +1,4 @@
 -- `frame_writer::write_frame` meets its contract: only IF1 carries modes. Assumes nothing.
-use borrow.Author.Rules.{rules}
 use mathlib.Core.Path.{◌≡◌, sym, ◌∙◌, subst}
 use mathlib.Core.List.{◌++◌}
 use mathlib.Core.Bool.{true}

@@ -26,6 +26,6 @@ returns c =
     let w = c.requires.0 in
     let r = c.put_run in
     let k = c.core_bits in
-    let o : Octets a.out.now = λ i. (c.slice_known-1.given i).fits in
+    let o : Octets a.out.now = λ i. search rules in
     let put = core-put a.h a.src.now a.from a.out.now w c.requires.1 r.new.dst k.result o k.ensures.0 r.ensures in
     c.put_modes.ensures (take 3 a.out.now) (drop (octets if1 a.h.frame_type) a.out.now) (take (core_bits a.h.frame_type) (drop a.from (bits a.src.now))) (three-there a.h a.src.now a.from a.out.now w c.requires.1) (core-size a.h a.src.now a.from a.out.now w c.requires.1) put

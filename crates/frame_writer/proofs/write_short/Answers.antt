@@ -1,5 +1,4 @@
 -- `frame_writer::write_short` meets its contract: the header octet is stored, and the core put behind its header bits. Assumes nothing.
-use borrow.Author.Rules.{rules}
 use mathlib.Core.Path.{◌∙◌}
 use native.Mathlib.Omega.{arith}
 use lib.ListN.{length-set}
