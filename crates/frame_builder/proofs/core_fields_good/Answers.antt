@@ -1,5 +1,4 @@
 -- `frame_builder::core_fields_good` meets its contract: a SID frame's core has five octets, with the mode at its end. Assumes nothing.
-use borrow.Author.Rules.{rules}
 use mathlib.Core.Path.{ap, ◌∙◌}
 use native.Mathlib.Omega.{arith}
 use Rattle.bits.specs.Bits.{octets_for}

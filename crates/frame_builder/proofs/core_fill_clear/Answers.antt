@@ -1,5 +1,4 @@
 -- `frame_builder::core_fill_clear` meets its contract: the filling is the last bits of the last octet. Assumes nothing.
-use borrow.Author.Rules.{rules}
 use Rattle.frame_builder.proofs.BuilderLaws.{fill_none, fill_last}
 use Rattle.frame_builder.proofs.core_fill_clear.Goals as goal
 
