@@ -24,8 +24,8 @@ returns-then-last c =
     let a = c.args in
     let p = c.requires.1 in
     let one = ap one_if c.if-last.true in
-    moved_last a.src.now a.out.now c.copy_by_five.new.dst a.i 5 a.c a.j w z r (λ k. (c.slice_known-1.given k).fits) (λ k. (c.slice_known-2-1.given k).fits) e (omega arith) (omega (arith, c.requires.0)) c.copy_by_five.ensures _
-    (last_octet a.src.now a.out.now c.copy_by_five.new.dst a.i 5 a.c a.j w z r (λ k. (c.slice_known-1.given k).fits) (λ k. (c.slice_known-2-1.given k).fits) e (omega arith) (omega (arith, c.requires.0)) c.copy_by_five.ensures (get_or a.src.now (a.i + a.c) 0) _ c.requires.0 refl (shift_five _ (c.type_inv.src (a.i + a.c)).fits))
+    moved_last a.src.now a.out.now c.copy_by_five.new.dst a.i 5 a.c a.j w z r (λ k. search rules) (λ k. search rules) e (omega arith) (omega (arith, c.requires.0)) c.copy_by_five.ensures _
+    (last_octet a.src.now a.out.now c.copy_by_five.new.dst a.i 5 a.c a.j w z r (λ k. search rules) (λ k. search rules) e (omega arith) (omega (arith, c.requires.0)) c.copy_by_five.ensures (get_or a.src.now (a.i + a.c) 0) _ c.requires.0 refl (shift_five _ (c.type_inv.src (a.i + a.c)).fits))
     (omega (arith, p, one))
     ∙ sym (ap (λ k. take a.j a.out.now ++ (packs (a.c + k) w ++ drop (a.j + (a.c + k)) a.out.now)) one)
 
@@ -35,5 +35,5 @@ returns-else-last c =
     let a = c.args in
     let zero = ap one_if c.if-last.false in
     let same : a.c + 0 ≡ a.c = omega arith in
-    moved a.src.now a.out.now c.copy_by_five.new.dst a.i 5 a.c a.j w z r (λ k. (c.slice_known-1.given k).fits) (λ k. (c.type_inv.out k).fits) e (omega arith) (omega (arith, c.requires.0)) c.copy_by_five.ensures
+    moved a.src.now a.out.now c.copy_by_five.new.dst a.i 5 a.c a.j w z r (λ k. search rules) (λ k. (c.type_inv.out k).fits) e (omega arith) (omega (arith, c.requires.0)) c.copy_by_five.ensures
     ∙ sym (ap (λ k. take a.j a.out.now ++ (packs k w ++ drop (a.j + k) a.out.now)) (ap (λ k. a.c + k) zero ∙ same))

@@ -1,5 +1,4 @@
 -- `core_mover::move_core` meets its contract: each pair of formats has its mover. Assumes nothing.
-use borrow.Author.Rules.{rules}
 use mathlib.Core.Path.{◌≡◌, sym, ◌∙◌, subst}
 use Rattle.definitions.specs.Frames.{Frame}
 use Rattle.frame.specs.Answers.{format_of}

@@ -1,5 +1,4 @@
 -- `core_mover::over_from_if2` meets its contract. Assumes nothing.
-use borrow.Author.Rules.{rules}
 use mathlib.Core.Path.{refl}
 use Prim.Native.Nat.{◌-◌}
 use lib.Dec.{eqb}

@@ -1,5 +1,4 @@
 -- `core_mover::over_to_if2` meets its contract. Assumes nothing.
-use borrow.Author.Rules.{rules}
 use mathlib.Core.Path.{refl}
 use mathlib.Core.Bool.{not}
 use Prim.Native.Nat.{◌-◌}

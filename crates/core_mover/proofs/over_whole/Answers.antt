@@ -16,4 +16,4 @@ pub returns : goal.returns
 returns c =
     λ x ex p.
     let a = c.args in
-    over-gives a.t c.core_octets-m.result (octets if2 a.t) c.requires.0 c.core_octets-m.ensures refl (format_of a.f) (format_of a.g) c.core_at.result c.core_at-2.result a.src.now a.out.now x c.requires.1 c.requires.2 c.core_at.ensures.0 c.core_at-2.ensures.0 ex p _ (λ k. (c.slice_known-1.given k).fits) (λ k. (c.type_inv.out k).fits) c.copy_whole.ensures
+    over-gives a.t c.core_octets-m.result (octets if2 a.t) c.requires.0 c.core_octets-m.ensures refl (format_of a.f) (format_of a.g) c.core_at.result c.core_at-2.result a.src.now a.out.now x c.requires.1 c.requires.2 c.core_at.ensures.0 c.core_at-2.ensures.0 ex p _ (λ k. search rules) (λ k. (c.type_inv.out k).fits) c.copy_whole.ensures
