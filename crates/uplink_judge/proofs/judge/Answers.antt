@@ -1,7 +1,5 @@
 -- `uplink_judge::judge` meets its contract: what is behind the tests of the definition is left to write. Assumes nothing.
-use borrow.Author.Rules.{rules}
 use mathlib.Core.Path.{sym, ap, ◌∙◌}
-use borrow.Author.Tests.{not-true, not-false}
 use Rattle.uplink_judge.specs.Judging.{picked_of}
 use Rattle.uplink_judge.proofs.JudgeLaws.{judges-refused, judges_bad, judges-subflows, judges-empty, judges-core}
 use Rattle.uplink_judge.proofs.judge.Goals as goal

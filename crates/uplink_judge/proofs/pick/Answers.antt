@@ -1,5 +1,4 @@
 -- `uplink_judge::pick` meets its contract: each test is the definition's, and they are made in its order. Assumes nothing.
-use borrow.Author.Rules.{rules}
 use mathlib.Core.Path.{sym, ap, ◌∙◌}
 use Rattle.combinations.specs.Answers.{found_of}
 use Rattle.uplink_judge.proofs.JudgeLaws.{fqc_high, rfci_high, no_set, fqc_reserved, looks_up}

@@ -1,5 +1,4 @@
 -- `uplink_judge::subflow_good` meets its contract. Assumes nothing.
-use borrow.Author.Rules.{rules}
 use mathlib.Core.Path.{◌∙◌}
 use Rattle.uplink_judge.proofs.JudgeLaws.{octets_wrong, fill_tells}
 use Rattle.uplink_judge.proofs.subflow_good.Goals as goal

@@ -1,7 +1,5 @@
 -- `uplink_judge::subflows_good` meets its contract: the three are judged in turn. Assumes nothing.
-use borrow.Author.Rules.{rules}
 use mathlib.Core.Path.{sym, ◌∙◌}
-use borrow.Author.Tests.{not-true, not-false}
 use Rattle.uplink_judge.proofs.JudgeLaws.{first_wrong, second_wrong, third_tells}
 use Rattle.uplink_judge.proofs.subflows_good.Goals as goal
 
