@@ -1,5 +1,4 @@
 -- `uplink::append` meets its contract. Assumes nothing.
-use borrow.Author.Rules.{rules}
 use Rattle.bits.specs.Bits.{bits}
 use native.Mathlib.Omega.{arith}
 use lib.ListN.{take}

@@ -1,5 +1,4 @@
 -- `uplink::build_empty` meets its contract: no octets are the packed core of no bits. Assumes nothing.
-use borrow.Author.Rules.{rules}
 use Rattle.uplink.proofs.UpLaws.{build-empty, into_same}
 use Rattle.uplink.proofs.build_empty.Goals as goal
 

@@ -1,5 +1,4 @@
 -- `uplink::join` meets its contract: each run is put behind the ones before it. Assumes nothing.
-use borrow.Author.Rules.{rules}
 use Rattle.uplink.proofs.UpLaws.{joins}
 use Rattle.uplink.proofs.join.Goals as goal
 

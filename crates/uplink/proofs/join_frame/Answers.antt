@@ -1,5 +1,4 @@
 -- `uplink::join_frame` meets its contract: what was judged is written. Assumes nothing.
-use borrow.Author.Rules.{rules}
 use mathlib.Core.Path.{refl, sym, ap, ◌∙◌}
 use lib.ListN.{length}
 use Rattle.uplink_judge.specs.Judging.{writes}
@@ -10,7 +9,7 @@ pub build_joined-requires : goal.build_joined-requires
 build_joined-requires c = let k = c.judge.ensures.core _ c.in-Core.is in (k.good, k.type, k.flows)
 
 pub build_empty-requires : goal.build_empty-requires
-build_empty-requires c = (c.judge.ensures.quality _ c.quality.given.1, refl)
+build_empty-requires c = (c.judge.ensures.quality _ c.in-Empty.is, refl)
 
 pub returns-in-Core : goal.returns-in-Core
 returns-in-Core c =
@@ -21,9 +20,9 @@ returns-in-Core c =
 
 pub returns-in-Empty : goal.returns-in-Empty
 returns-in-Empty c =
-    let a = c.before.before.before.before.before.before.before.before.before.before.before.before.before.args in
+    let a = c.args in
     into_same _ _ a.out.now _ c.build_empty.result
-    (ap (λ j. writes a.link.request a.fqc a.s1.now a.s2.now a.s3.now j (length a.out.now)) (sym c.quality.given.1) ∙ c.judge.ensures.call (length a.out.now))
+    (ap (λ j. writes a.link.request a.fqc a.s1.now a.s2.now a.s3.now j (length a.out.now)) (sym c.in-Empty.is) ∙ c.judge.ensures.call (length a.out.now))
     c.build_empty.ensures
 
 pub returns-in-Refused : goal.returns-in-Refused
