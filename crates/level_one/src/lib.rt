@@ -1,5 +1,5 @@
 // Level one's C interface (include/amrwb.h): recordings and single frames in IF1 and IF2. Each function calls one entry and hands its answer
-// on as numbers. Every export is an entry.
+// on as numbers. Every public function is an entry; crates/level_one_c exports them.
 #![tactic(auto)]
 
 ghost use Rattle.std.specs.Prelude.{◌≡◌, ◌&&◌, leb, length};
@@ -25,8 +25,7 @@ fn both_here(from: u64, to: u64) -> bool
     false
 }
 
-#[unsafe(no_mangle)]
-pub extern "C" fn amrwb_validate(format: u64, rec: &[u8]) -> Answer
+pub fn amrwb_validate(format: u64, rec: &[u8]) -> Answer
     ensures { result ≡ placed_numbers (validate_one format rec.now) }
 {
     if LAST_FORMAT < format {
@@ -35,14 +34,7 @@ pub extern "C" fn amrwb_validate(format: u64, rec: &[u8]) -> Answer
     counts_answer(recording_reader::validate(format, rec))
 }
 
-#[unsafe(no_mangle)]
-pub extern "C" fn amrwb_convert(
-    from: u64,
-    to: u64,
-    request: u64,
-    rec: &[u8],
-    out: &mut [u8],
-) -> Answer
+pub fn amrwb_convert(from: u64, to: u64, request: u64, rec: &[u8], out: &mut [u8]) -> Answer
     ensures { FlatConversion (convert_one from to request rec.now (length out.old)) out.old out.new result }
 {
     if !both_here(from, to) {
@@ -51,8 +43,7 @@ pub extern "C" fn amrwb_convert(
     counts_answer(converter::convert(from, to, request, rec, out))
 }
 
-#[unsafe(no_mangle)]
-pub extern "C" fn amrwb_convert_length(from: u64, to: u64, request: u64, rec: &[u8]) -> Answer
+pub fn amrwb_convert_length(from: u64, to: u64, request: u64, rec: &[u8]) -> Answer
     ensures { result ≡ placed_numbers (length_one from to request rec.now) }
 {
     if !both_here(from, to) {
@@ -61,8 +52,7 @@ pub extern "C" fn amrwb_convert_length(from: u64, to: u64, request: u64, rec: &[
     counts_answer(converter::convert_length(from, to, request, rec))
 }
 
-#[unsafe(no_mangle)]
-pub extern "C" fn amrwb_read_frame(format: u64, octets: &[u8], core: &mut [u8]) -> FrameAnswer
+pub fn amrwb_read_frame(format: u64, octets: &[u8], core: &mut [u8]) -> FrameAnswer
     ensures { FlatFrame (read_one format octets.now (length core.old)) core.old core.new result }
 {
     if LAST_FORMAT < format {
@@ -71,8 +61,7 @@ pub extern "C" fn amrwb_read_frame(format: u64, octets: &[u8], core: &mut [u8]) 
     read_answer(format, octets, core)
 }
 
-#[unsafe(no_mangle)]
-pub extern "C" fn amrwb_build_if1(
+pub fn amrwb_build_if1(
     frame_type: u64,
     quality: u64,
     indication: u64,
@@ -85,13 +74,7 @@ pub extern "C" fn amrwb_build_if1(
     built_answer(frame_builder::build_if1(frame_type, quality, indication, request, core, out))
 }
 
-#[unsafe(no_mangle)]
-pub extern "C" fn amrwb_build_if2(
-    frame_type: u64,
-    quality: u64,
-    core: &[u8],
-    out: &mut [u8],
-) -> Answer
+pub fn amrwb_build_if2(frame_type: u64, quality: u64, core: &[u8], out: &mut [u8]) -> Answer
     ensures { FlatOutput (build_frame if2 frame_type quality 0 0 core.now (length out.old)) out.old out.new result }
 {
     built_answer(frame_builder::build_if2(frame_type, quality, core, out))

@@ -1,5 +1,5 @@
 // Level three's C interface (include/amrwb.h): level two's calls, and the link's, each of which calls one entry and hands its answer on as
-// numbers, as crates/link_answers/specs/Flat.antt says. Every export is an entry.
+// numbers, as crates/link_answers/specs/Flat.antt says. Every public function is an entry; crates/level_three_c exports them.
 #![tactic(auto)]
 
 ghost use Rattle.std.specs.Prelude.{◌≡◌, length};
@@ -24,42 +24,31 @@ use links::Link;
 
 // Level two's calls, as they are there.
 
-#[unsafe(no_mangle)]
-pub extern "C" fn amrwb_validate(format: u64, rec: &[u8]) -> Answer
+pub fn amrwb_validate(format: u64, rec: &[u8]) -> Answer
     ensures { result ≡ placed_numbers (validate_call format rec.now) }
 {
     level_two::amrwb_validate(format, rec)
 }
 
-#[unsafe(no_mangle)]
-pub extern "C" fn amrwb_convert(
-    from: u64,
-    to: u64,
-    request: u64,
-    rec: &[u8],
-    out: &mut [u8],
-) -> Answer
+pub fn amrwb_convert(from: u64, to: u64, request: u64, rec: &[u8], out: &mut [u8]) -> Answer
     ensures { FlatConversion (convert_call from to request rec.now (length out.old)) out.old out.new result }
 {
     level_two::amrwb_convert(from, to, request, rec, out)
 }
 
-#[unsafe(no_mangle)]
-pub extern "C" fn amrwb_convert_length(from: u64, to: u64, request: u64, rec: &[u8]) -> Answer
+pub fn amrwb_convert_length(from: u64, to: u64, request: u64, rec: &[u8]) -> Answer
     ensures { result ≡ placed_numbers (length_call from to request rec.now) }
 {
     level_two::amrwb_convert_length(from, to, request, rec)
 }
 
-#[unsafe(no_mangle)]
-pub extern "C" fn amrwb_read_frame(format: u64, octets: &[u8], core: &mut [u8]) -> FrameAnswer
+pub fn amrwb_read_frame(format: u64, octets: &[u8], core: &mut [u8]) -> FrameAnswer
     ensures { FlatFrame (read_call format octets.now (length core.old)) core.old core.new result }
 {
     level_two::amrwb_read_frame(format, octets, core)
 }
 
-#[unsafe(no_mangle)]
-pub extern "C" fn amrwb_build_if1(
+pub fn amrwb_build_if1(
     frame_type: u64,
     quality: u64,
     indication: u64,
@@ -72,60 +61,43 @@ pub extern "C" fn amrwb_build_if1(
     level_two::amrwb_build_if1(frame_type, quality, indication, request, core, out)
 }
 
-#[unsafe(no_mangle)]
-pub extern "C" fn amrwb_build_if2(
-    frame_type: u64,
-    quality: u64,
-    core: &[u8],
-    out: &mut [u8],
-) -> Answer
+pub fn amrwb_build_if2(frame_type: u64, quality: u64, core: &[u8], out: &mut [u8]) -> Answer
     ensures { FlatOutput (build_frame if2 frame_type quality 0 0 core.now (length out.old)) out.old out.new result }
 {
     level_two::amrwb_build_if2(frame_type, quality, core, out)
 }
 
-#[unsafe(no_mangle)]
-pub extern "C" fn amrwb_build_stored(
-    frame_type: u64,
-    quality: u64,
-    core: &[u8],
-    out: &mut [u8],
-) -> Answer
+pub fn amrwb_build_stored(frame_type: u64, quality: u64, core: &[u8], out: &mut [u8]) -> Answer
     ensures { FlatOutput (build_frame storage frame_type quality 0 0 core.now (length out.old)) out.old out.new result }
 {
     level_two::amrwb_build_stored(frame_type, quality, core, out)
 }
 
-#[unsafe(no_mangle)]
-pub extern "C" fn amrwb_order_to_core(mode: u64, row: &[u8], core: &mut [u8]) -> Answer
+pub fn amrwb_order_to_core(mode: u64, row: &[u8], core: &mut [u8]) -> Answer
     ensures { FlatOutput (to_core_call mode row.now (length core.old)) core.old core.new result }
 {
     level_two::amrwb_order_to_core(mode, row, core)
 }
 
-#[unsafe(no_mangle)]
-pub extern "C" fn amrwb_order_to_row(mode: u64, core: &[u8], row: &mut [u8]) -> Answer
+pub fn amrwb_order_to_row(mode: u64, core: &[u8], row: &mut [u8]) -> Answer
     ensures { FlatOutput (to_row_call mode core.now (length row.old)) row.old row.new result }
 {
     level_two::amrwb_order_to_row(mode, core, row)
 }
 
-#[unsafe(no_mangle)]
-pub extern "C" fn amrwb_class(frame_type: u64, quality: u64, sti: u64) -> ClassAnswer
+pub fn amrwb_class(frame_type: u64, quality: u64, sti: u64) -> ClassAnswer
     ensures { result ≡ class_numbers (reception_class frame_type quality sti) }
 {
     level_two::amrwb_class(frame_type, quality, sti)
 }
 
-#[unsafe(no_mangle)]
-pub extern "C" fn amrwb_view_open(format: u64, rec: &[u8]) -> ViewAnswer
+pub fn amrwb_view_open(format: u64, rec: &[u8]) -> ViewAnswer
     ensures { result ≡ open_numbers (open_call format rec.now) }
 {
     level_two::amrwb_view_open(format, rec)
 }
 
-#[unsafe(no_mangle)]
-pub extern "C" fn amrwb_view_next(
+pub fn amrwb_view_next(
     format: u64,
     offset: u64,
     number: u64,
@@ -137,8 +109,7 @@ pub extern "C" fn amrwb_view_next(
     level_two::amrwb_view_next(format, offset, number, rec, core)
 }
 
-#[unsafe(no_mangle)]
-pub extern "C" fn amrwb_report(rec: &[u8]) -> ReportAnswer
+pub fn amrwb_report(rec: &[u8]) -> ReportAnswer
     ensures { result ≡ report_numbers (report_call rec.now) }
 {
     level_two::amrwb_report(rec)
@@ -146,36 +117,31 @@ pub extern "C" fn amrwb_report(rec: &[u8]) -> ReportAnswer
 
 // The link.
 
-#[unsafe(no_mangle)]
-pub extern "C" fn amrwb_link_fresh() -> Link
+pub fn amrwb_link_fresh() -> Link
     ensures { result ≡ fresh_link }
 {
     link_state::fresh()
 }
 
-#[unsafe(no_mangle)]
-pub extern "C" fn amrwb_link_assign(link: Link, rows: &[u64]) -> LinkAnswer
+pub fn amrwb_link_assign(link: Link, rows: &[u64]) -> LinkAnswer
     ensures { result ≡ link_numbers (link_step link (assign rows.now)) }
 {
     moved_answer(link_state::assign(link, rows))
 }
 
-#[unsafe(no_mangle)]
-pub extern "C" fn amrwb_link_release(link: Link) -> LinkAnswer
+pub fn amrwb_link_release(link: Link) -> LinkAnswer
     ensures { result ≡ link_numbers (link_step link release) }
 {
     moved_answer(link_state::release(link))
 }
 
-#[unsafe(no_mangle)]
-pub extern "C" fn amrwb_link_rate(link: Link, mode: u64) -> LinkAnswer
+pub fn amrwb_link_rate(link: Link, mode: u64) -> LinkAnswer
     ensures { result ≡ link_numbers (link_step link (rate mode)) }
 {
     moved_answer(link_state::rate_command(link, mode))
 }
 
-#[unsafe(no_mangle)]
-pub extern "C" fn amrwb_link_up(
+pub fn amrwb_link_up(
     link: Link,
     fqc: u64,
     rfci: u64,
@@ -189,8 +155,7 @@ pub extern "C" fn amrwb_link_up(
     built_answer(uplink::join_frame(link, fqc, rfci, s1, s2, s3, out))
 }
 
-#[unsafe(no_mangle)]
-pub extern "C" fn amrwb_link_down(
+pub fn amrwb_link_down(
     link: Link,
     frame: &[u8],
     s1: &mut [u8],

@@ -1,5 +1,5 @@
 // Level two's C interface (include/amrwb.h): each function calls one entry and hands its answer on as numbers, as specs/Flat.antt says.
-// Every export is an entry.
+// Every public function is an entry; crates/level_two_c exports them.
 #![tactic(auto)]
 
 ghost use Rattle.std.specs.Prelude.{◌≡◌, length};
@@ -64,42 +64,31 @@ pub struct ReportAnswer {
     pub empty: u64,
 }
 
-#[unsafe(no_mangle)]
-pub extern "C" fn amrwb_validate(format: u64, rec: &[u8]) -> Answer
+pub fn amrwb_validate(format: u64, rec: &[u8]) -> Answer
     ensures { result ≡ placed_numbers (validate_call format rec.now) }
 {
     counts_answer(recording_reader::validate(format, rec))
 }
 
-#[unsafe(no_mangle)]
-pub extern "C" fn amrwb_convert(
-    from: u64,
-    to: u64,
-    request: u64,
-    rec: &[u8],
-    out: &mut [u8],
-) -> Answer
+pub fn amrwb_convert(from: u64, to: u64, request: u64, rec: &[u8], out: &mut [u8]) -> Answer
     ensures { FlatConversion (convert_call from to request rec.now (length out.old)) out.old out.new result }
 {
     counts_answer(converter::convert(from, to, request, rec, out))
 }
 
-#[unsafe(no_mangle)]
-pub extern "C" fn amrwb_convert_length(from: u64, to: u64, request: u64, rec: &[u8]) -> Answer
+pub fn amrwb_convert_length(from: u64, to: u64, request: u64, rec: &[u8]) -> Answer
     ensures { result ≡ placed_numbers (length_call from to request rec.now) }
 {
     counts_answer(converter::convert_length(from, to, request, rec))
 }
 
-#[unsafe(no_mangle)]
-pub extern "C" fn amrwb_read_frame(format: u64, octets: &[u8], core: &mut [u8]) -> FrameAnswer
+pub fn amrwb_read_frame(format: u64, octets: &[u8], core: &mut [u8]) -> FrameAnswer
     ensures { FlatFrame (read_call format octets.now (length core.old)) core.old core.new result }
 {
     read_answer(format, octets, core)
 }
 
-#[unsafe(no_mangle)]
-pub extern "C" fn amrwb_build_if1(
+pub fn amrwb_build_if1(
     frame_type: u64,
     quality: u64,
     indication: u64,
@@ -112,39 +101,25 @@ pub extern "C" fn amrwb_build_if1(
     level_one::amrwb_build_if1(frame_type, quality, indication, request, core, out)
 }
 
-#[unsafe(no_mangle)]
-pub extern "C" fn amrwb_build_if2(
-    frame_type: u64,
-    quality: u64,
-    core: &[u8],
-    out: &mut [u8],
-) -> Answer
+pub fn amrwb_build_if2(frame_type: u64, quality: u64, core: &[u8], out: &mut [u8]) -> Answer
     ensures { FlatOutput (build_frame if2 frame_type quality 0 0 core.now (length out.old)) out.old out.new result }
 {
     level_one::amrwb_build_if2(frame_type, quality, core, out)
 }
 
-#[unsafe(no_mangle)]
-pub extern "C" fn amrwb_build_stored(
-    frame_type: u64,
-    quality: u64,
-    core: &[u8],
-    out: &mut [u8],
-) -> Answer
+pub fn amrwb_build_stored(frame_type: u64, quality: u64, core: &[u8], out: &mut [u8]) -> Answer
     ensures { FlatOutput (build_frame storage frame_type quality 0 0 core.now (length out.old)) out.old out.new result }
 {
     built_answer(frame_builder::build_storage(frame_type, quality, core, out))
 }
 
-#[unsafe(no_mangle)]
-pub extern "C" fn amrwb_order_to_core(mode: u64, row: &[u8], core: &mut [u8]) -> Answer
+pub fn amrwb_order_to_core(mode: u64, row: &[u8], core: &mut [u8]) -> Answer
     ensures { FlatOutput (to_core_call mode row.now (length core.old)) core.old core.new result }
 {
     built_answer(codec_order::order_to_core(mode, row, core))
 }
 
-#[unsafe(no_mangle)]
-pub extern "C" fn amrwb_order_to_row(mode: u64, core: &[u8], row: &mut [u8]) -> Answer
+pub fn amrwb_order_to_row(mode: u64, core: &[u8], row: &mut [u8]) -> Answer
     ensures { FlatOutput (to_row_call mode core.now (length row.old)) row.old row.new result }
 {
     built_answer(codec_order::order_to_row(mode, core, row))
@@ -180,8 +155,7 @@ fn class_number(c: Reception) -> u64
     }
 }
 
-#[unsafe(no_mangle)]
-pub extern "C" fn amrwb_class(frame_type: u64, quality: u64, sti: u64) -> ClassAnswer
+pub fn amrwb_class(frame_type: u64, quality: u64, sti: u64) -> ClassAnswer
     ensures { result ≡ class_numbers (reception_class frame_type quality sti) }
 {
     match reception::reception_class(frame_type, quality, sti) {
@@ -229,8 +203,7 @@ fn packed_octets(t: u8) -> u64
     0
 }
 
-#[unsafe(no_mangle)]
-pub extern "C" fn amrwb_view_open(format: u64, rec: &[u8]) -> ViewAnswer
+pub fn amrwb_view_open(format: u64, rec: &[u8]) -> ViewAnswer
     ensures { result ≡ open_numbers (open_call format rec.now) }
 {
     match viewer::view_open(format, rec) {
@@ -241,8 +214,7 @@ pub extern "C" fn amrwb_view_open(format: u64, rec: &[u8]) -> ViewAnswer
     }
 }
 
-#[unsafe(no_mangle)]
-pub extern "C" fn amrwb_view_next(
+pub fn amrwb_view_next(
     format: u64,
     offset: u64,
     number: u64,
@@ -274,8 +246,7 @@ pub extern "C" fn amrwb_view_next(
     }
 }
 
-#[unsafe(no_mangle)]
-pub extern "C" fn amrwb_report(rec: &[u8]) -> ReportAnswer
+pub fn amrwb_report(rec: &[u8]) -> ReportAnswer
     ensures { result ≡ report_numbers (report_call rec.now) }
 {
     match report::report_recording(rec) {

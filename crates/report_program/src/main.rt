@@ -7,7 +7,8 @@ mod text;
 ghost use Rattle.std.specs.Prelude.{◌≡◌, ℕ, ◌≤◌, length};
 ghost use Rattle.report_program.specs.declared.Input.TheVariants as input;
 
-use libc::{STDERR_FILENO, STDIN_FILENO, STDOUT_FILENO};
+use std::io::{Read, Write};
+use std::process::ExitCode;
 
 // What came from standard input: so many octets, or an error.
 #[derive(Clone, Copy)]
@@ -24,38 +25,33 @@ fn input_buffer() -> [u8; 65537]
 }
 
 // Reads until the input ends or the buffer is full. A read may bring fewer octets than there are.
-fn read_input(buf: &mut [u8]) -> Input
+fn read_input(from: &mut impl Read, buf: &mut [u8]) -> Input
     ensures { (n : ℕ) → result ≡ input.Octets n → n ≤ length buf.new }
 {
     let mut n: usize = 0;
     while n < buf.len() {
-        let got = libc::read(STDIN_FILENO, &mut buf[n..]);
-        if got < 0 {
-            return Input::Failed;
+        match from.read(&mut buf[n..]) {
+            Ok(0) => return Input::Octets(n),
+            Ok(more) => n += more,
+            Err(_) => return Input::Failed,
         }
-        let more = io::count(got, &buf[n..]);
-        if more == 0 {
-            return Input::Octets(n);
-        }
-        n += more;
     }
     Input::Octets(n)
 }
 
-// A program has no exit status to set, so a message on standard error is what tells of a failure.
-fn main() {
+// A message on standard error and the exit status tell of a failure.
+fn main(rt: HostRuntime) -> ExitCode {
     let mut buf = input_buffer();
-    let read = read_input(&mut buf);
+    let read = read_input(&mut rt.stdin(), &mut buf);
     let Input::Octets(n) = read else {
-        io::write_all(STDERR_FILENO, b"report: standard input cannot be read\n");
-        return;
+        let _ = rt.stderr().write_all(b"report: standard input cannot be read\n");
+        return ExitCode::FAILURE;
     };
     let mut out = [0u8; 256];
     let k = text::report_text(&buf[..n], &mut out);
-    if !io::write_all(STDOUT_FILENO, &out[..k]) {
-        io::write_all(
-            STDERR_FILENO,
-            b"report: standard output cannot be written\n",
-        );
+    if rt.stdout().write_all(&out[..k]).is_err() {
+        let _ = rt.stderr().write_all(b"report: standard output cannot be written\n");
+        return ExitCode::FAILURE;
     }
+    ExitCode::SUCCESS
 }

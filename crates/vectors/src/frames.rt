@@ -1,6 +1,7 @@
 // TS 26.201, tables 5 and 6 (IF1) and A.1a, A.2 and A.3 (IF2), as docs/DECISIONS.md corrects them.
 use crate::places::{NO_BIT, blank, difference, set_bit};
 use crate::print::{number, octets, refusal, text};
+use std::io::Result;
 
 // Octets of an IF1 frame before its core.
 const BEFORE_CORE: usize = 3;
@@ -13,12 +14,12 @@ enum Table {
     A2,
 }
 
-fn print_name(table: Table) {
+fn print_name(rt: &impl Print, table: Table) -> Result<()> {
     match table {
-        Table::Five => text(b"table 5"),
-        Table::Six => text(b"table 6"),
-        Table::A1a => text(b"table A.1a"),
-        Table::A2 => text(b"table A.2"),
+        Table::Five => text(rt, b"table 5"),
+        Table::Six => text(rt, b"table 6"),
+        Table::A1a => text(rt, b"table A.1a"),
+        Table::A2 => text(rt, b"table A.2"),
     }
 }
 
@@ -84,108 +85,115 @@ fn bit_number(o: u8) -> u64 {
 }
 
 // Octets count from 1.
-fn print_place(without: &[u8; 320], with: &[u8; 320], behind: usize) {
+fn print_place(
+    rt: &impl Print,
+    without: &[u8; 320],
+    with: &[u8; 320],
+    behind: usize,
+) -> Result<()> {
     let i = difference(without, with, behind);
     if i < 320 {
-        text(b" octet ");
-        number(i as u64 + 1);
-        text(b" bit ");
-        number(bit_number(without[i] ^ with[i]));
+        text(rt, b" octet ")?;
+        number(rt, i as u64 + 1)?;
+        text(rt, b" bit ")?;
+        number(rt, bit_number(without[i] ^ with[i]))?;
     }
+    Ok(())
 }
 
 // Where d(j) stands, and in IF1 the CRC of the frame in which it alone is 1.
-fn print_bit(table: Table, j: usize) {
+fn print_bit(rt: &impl Print, table: Table, j: usize) -> Result<()> {
     let without = frame_of(table, NO_BIT);
     let with = frame_of(table, j);
-    print_name(table);
-    text(b" d(");
-    number(j as u64);
-    text(b")");
+    print_name(rt, table)?;
+    text(rt, b" d(")?;
+    number(rt, j as u64)?;
+    text(rt, b")")?;
     match table {
         Table::Five | Table::Six => {
-            print_place(&without, &with, BEFORE_CORE);
-            text(b" CRC");
-            octets(&[with[2]], 1);
+            print_place(rt, &without, &with, BEFORE_CORE)?;
+            text(rt, b" CRC")?;
+            octets(rt, &[with[2]], 1)?;
         }
-        Table::A1a | Table::A2 => print_place(&without, &with, 0),
+        Table::A1a | Table::A2 => print_place(rt, &without, &with, 0)?,
     }
-    text(b"\n");
+    text(rt, b"\n")
 }
 
-fn print_bits(table: Table, bits: usize) {
+fn print_bits(rt: &impl Print, table: Table, bits: usize) -> Result<()> {
     let mut j: usize = 0;
     while j < bits {
-        print_bit(table, j);
+        print_bit(rt, table, j)?;
         j += 1;
     }
+    Ok(())
 }
 
 // The table's frame without a bit of the core.
-fn print_frame(table: Table, n: u64) {
+fn print_frame(rt: &impl Print, table: Table, n: u64) -> Result<()> {
     let frame = frame_of(table, NO_BIT);
-    print_name(table);
-    text(b" frame");
-    octets(&frame, n);
-    text(b"\n");
+    print_name(rt, table)?;
+    text(rt, b" frame")?;
+    octets(rt, &frame, n)?;
+    text(rt, b"\n")
 }
 
 // What a frame is refused for whose octets are as printed.
-fn print_printed(table: Table, frame: &[u8]) {
+fn print_printed(rt: &impl Print, table: Table, frame: &[u8]) -> Result<()> {
     let mut core = blank();
     let a = level_three::amrwb_read_frame(1, frame, &mut core);
-    print_name(table);
-    text(b" printed");
-    refusal(a.refusal);
+    print_name(rt, table)?;
+    text(rt, b" printed")?;
+    refusal(rt, a.refusal)
 }
 
-fn print_table_five() {
-    print_frame(Table::Five, 35);
+fn print_table_five(rt: &impl Print) -> Result<()> {
+    print_frame(rt, Table::Five, 35)?;
     // type and mode indication 3
     let mut printed = [0u8; 35];
     printed[0] = 0x38;
     printed[1] = 0x31;
-    print_printed(Table::Five, &printed);
-    print_bits(Table::Five, 253);
+    print_printed(rt, Table::Five, &printed)?;
+    print_bits(rt, Table::Five, 253)
 }
 
-fn print_table_six() {
+fn print_table_six(rt: &impl Print) -> Result<()> {
     // STI 1, mode 3
     let update = [0, 0, 0, 0, 0x13];
     let mut frame = [0u8; 8];
     level_three::amrwb_build_if1(9, 1, 0, 2, &update, &mut frame);
-    print_name(Table::Six);
-    text(b" frame");
-    octets(&frame, 8);
-    text(b"\n");
+    print_name(rt, Table::Six)?;
+    text(rt, b" frame")?;
+    octets(rt, &frame, 8)?;
+    text(rt, b"\n")?;
     // type 8
     frame[0] = 0x88;
-    print_printed(Table::Six, &frame);
-    print_bits(Table::Six, 40);
+    print_printed(rt, Table::Six, &frame)?;
+    print_bits(rt, Table::Six, 40)
 }
 
 // Speech lost or no data.
-fn print_table_a3(frame_type: u64, quality: u64) {
+fn print_table_a3(rt: &impl Print, frame_type: u64, quality: u64) -> Result<()> {
     let mut out = [0u8; 1];
     level_three::amrwb_build_if2(frame_type, quality, b"", &mut out);
-    text(b"table A.3 type ");
-    number(frame_type);
-    text(b" quality ");
-    number(quality);
-    text(b" frame");
-    octets(&out, 1);
-    text(b"\n");
+    text(rt, b"table A.3 type ")?;
+    number(rt, frame_type)?;
+    text(rt, b" quality ")?;
+    number(rt, quality)?;
+    text(rt, b" frame")?;
+    octets(rt, &out, 1)?;
+    text(rt, b"\n")
 }
 
-pub fn print_tables() {
-    print_table_five();
-    print_table_six();
-    print_frame(Table::A1a, 23);
-    print_bits(Table::A1a, 177);
-    print_frame(Table::A2, 6);
-    print_bits(Table::A2, 40);
-    print_table_a3(14, 0);
-    print_table_a3(14, 1);
-    print_table_a3(15, 0);
-    print_table_a3(15, 1);
+pub fn print_tables(rt: &impl Print) -> Result<()> {
+    print_table_five(rt)?;
+    print_table_six(rt)?;
+    print_frame(rt, Table::A1a, 23)?;
+    print_bits(rt, Table::A1a, 177)?;
+    print_frame(rt, Table::A2, 6)?;
+    print_bits(rt, Table::A2, 40)?;
+    print_table_a3(rt, 14, 0)?;
+    print_table_a3(rt, 14, 1)?;
+    print_table_a3(rt, 15, 0)?;
+    print_table_a3(rt, 15, 1)
 }

@@ -9,9 +9,11 @@ mod places;
 mod print;
 mod subflows;
 
-fn main() {
-    bench::print_cases();
-    frames::print_tables();
-    subflows::print_tables();
-    orders::print_tables();
+use std::io::Result;
+
+fn main(rt: HostRuntime) -> Result<()> {
+    bench::print_cases(&rt)?;
+    frames::print_tables(&rt)?;
+    subflows::print_tables(&rt)?;
+    orders::print_tables(&rt)
 }

@@ -1,6 +1,7 @@
 // TS 26.201, tables B.1 to B.5: the place in the codec's row of each bit of the core.
 use crate::places::{blank, difference, set_bit};
 use crate::print::{number, text};
+use std::io::Result;
 
 // Numbers of a table that stand in one line.
 const LINE: usize = 10;
@@ -25,36 +26,37 @@ fn row_in(mode: u64, j: usize) -> [u8; 320] {
 }
 
 // table(j), with what stands before it in its line.
-fn print_entry(mode: u64, j: usize) {
+fn print_entry(rt: &impl Print, mode: u64, j: usize) -> Result<()> {
     let without = blank();
     let with = row_in(mode, j);
     if j % LINE == 0 {
-        text(b"\n");
+        text(rt, b"\n")?;
     } else {
-        text(b" ");
+        text(rt, b" ")?;
     }
-    number(difference(&without, &with, 0) as u64);
+    number(rt, difference(&without, &with, 0) as u64)
 }
 
-fn print_entries(mode: u64, bits: usize) {
+fn print_entries(rt: &impl Print, mode: u64, bits: usize) -> Result<()> {
     let mut j: usize = 0;
     while j < bits {
-        print_entry(mode, j);
+        print_entry(rt, mode, j)?;
         j += 1;
     }
+    Ok(())
 }
 
-fn print_table(table: u64, mode: u64, bits: usize) {
-    text(b"table B.");
-    number(table);
-    print_entries(mode, bits);
-    text(b"\n");
+fn print_table(rt: &impl Print, table: u64, mode: u64, bits: usize) -> Result<()> {
+    text(rt, b"table B.")?;
+    number(rt, table)?;
+    print_entries(rt, mode, bits)?;
+    text(rt, b"\n")
 }
 
-pub fn print_tables() {
-    print_table(1, 0, 132);
-    print_table(2, 1, 177);
-    print_table(3, 2, 253);
-    print_table(4, 3, 285);
-    print_table(5, 4, 317);
+pub fn print_tables(rt: &impl Print) -> Result<()> {
+    print_table(rt, 1, 0, 132)?;
+    print_table(rt, 2, 1, 177)?;
+    print_table(rt, 3, 2, 253)?;
+    print_table(rt, 4, 3, 285)?;
+    print_table(rt, 5, 4, 317)
 }

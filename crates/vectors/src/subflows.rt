@@ -3,6 +3,7 @@ ghost use Rattle.std.specs.Prelude.{◌≡◌, ◌≤◌, length};
 
 use crate::print::{number, octets, refusal, text};
 use links::Link;
+use std::io::Result;
 
 // Room for a sub-flow or a frame.
 fn blank() -> [u8; 64]
@@ -47,40 +48,47 @@ fn all_ones(bits: u64) -> [u8; 64]
     s
 }
 
-fn print_start(example: u64, rfci: u64) {
-    text(b"table 6-2 example ");
-    number(example);
-    text(b" RFCI ");
-    number(rfci);
+fn print_start(rt: &impl Print, example: u64, rfci: u64) -> Result<()> {
+    text(rt, b"table 6-2 example ")?;
+    number(rt, example)?;
+    text(rt, b" RFCI ")?;
+    number(rt, rfci)
 }
 
 // Down of a frame.
-fn print_down(example: u64, rfci: u64, link: Link, frame: &[u8]) -> Link {
+fn print_down(rt: &impl Print, example: u64, rfci: u64, link: Link, frame: &[u8]) -> Result<Link> {
     let mut s1 = blank();
     let mut s2 = blank();
     let mut s3 = blank();
     let d = level_three::amrwb_link_down(link, frame, &mut s1, &mut s2, &mut s3);
-    print_start(example, rfci);
-    text(b" down FQC ");
-    number(d.fqc);
-    text(b" RFCI ");
-    number(d.rfci);
-    text(b" forwarded ");
-    number(d.forwarded);
-    text(b" request ");
-    number(d.request);
-    text(b" sub-flow 1");
-    octets(&s1, d.n1);
-    text(b" sub-flow 2");
-    octets(&s2, d.n2);
-    text(b" sub-flow 3");
-    octets(&s3, d.n3);
-    text(b"\n");
-    d.link
+    print_start(rt, example, rfci)?;
+    text(rt, b" down FQC ")?;
+    number(rt, d.fqc)?;
+    text(rt, b" RFCI ")?;
+    number(rt, d.rfci)?;
+    text(rt, b" forwarded ")?;
+    number(rt, d.forwarded)?;
+    text(rt, b" request ")?;
+    number(rt, d.request)?;
+    text(rt, b" sub-flow 1")?;
+    octets(rt, &s1, d.n1)?;
+    text(rt, b" sub-flow 2")?;
+    octets(rt, &s2, d.n2)?;
+    text(rt, b" sub-flow 3")?;
+    octets(rt, &s3, d.n3)?;
+    text(rt, b"\n")?;
+    Ok(d.link)
 }
 
 // Up and then Down of one combination. The first sub-flow begins with 0xA5 and is else 0; the second has every bit 1.
-fn print_both(example: u64, rfci: u64, size1: u64, size2: u64, link: Link) -> Link {
+fn print_both(
+    rt: &impl Print,
+    example: u64,
+    rfci: u64,
+    size1: u64,
+    size2: u64,
+    link: Link,
+) -> Result<Link> {
     let mut s1 = [0u8; 64];
     s1[0] = 0xA5;
     let s2 = all_ones(size2);
@@ -88,40 +96,41 @@ fn print_both(example: u64, rfci: u64, size1: u64, size2: u64, link: Link) -> Li
     let n2 = octets_of(size2);
     let mut out = [0u8; 64];
     let a = level_three::amrwb_link_up(link, 0, rfci, &s1[..n1], &s2[..n2], b"", &mut out);
-    print_start(example, rfci);
-    text(b" up");
-    octets(&out, a.octets);
-    text(b"\n");
+    print_start(rt, example, rfci)?;
+    text(rt, b" up")?;
+    octets(rt, &out, a.octets)?;
+    text(rt, b"\n")?;
     let n = a.octets as usize;
     if n <= 64 {
-        return print_down(example, rfci, link, &out[..n]);
+        return print_down(rt, example, rfci, link, &out[..n]);
     }
-    link
+    Ok(link)
 }
 
 // Every combination of a set, whose rows have five numbers.
-fn print_rows(example: u64, rows: &[u64], set: Link) {
+fn print_rows(rt: &impl Print, example: u64, rows: &[u64], set: Link) -> Result<()> {
     let mut link = set;
     let mut i: usize = 0;
     while i + 5 <= rows.len() {
-        link = print_both(example, rows[i], rows[i + 2], rows[i + 3], link);
+        link = print_both(rt, example, rows[i], rows[i + 2], rows[i + 3], link)?;
         i += 5;
     }
+    Ok(())
 }
 
-fn print_example(example: u64, rows: &[u64]) {
+fn print_example(rt: &impl Print, example: u64, rows: &[u64]) -> Result<()> {
     let rated = level_three::amrwb_link_rate(level_three::amrwb_link_fresh(), 3);
     let start = rated.link;
     let assigned = level_three::amrwb_link_assign(start, rows);
-    text(b"table 6-2 example ");
-    number(example);
-    text(b" assign");
-    refusal(assigned.refusal);
+    text(rt, b"table 6-2 example ")?;
+    number(rt, example)?;
+    text(rt, b" assign")?;
+    refusal(rt, assigned.refusal)?;
     let set = assigned.link;
-    print_rows(example, rows, set);
+    print_rows(rt, example, rows, set)
 }
 
-pub fn print_tables() {
+pub fn print_tables(rt: &impl Print) -> Result<()> {
     let one = [
         1, 9, 40, 0, 0, 2, 0, 54, 78, 0, 3, 1, 64, 113, 0, 4, 2, 72, 181, 0,
     ];
@@ -131,7 +140,7 @@ pub fn print_tables() {
     let three = [
         1, 9, 40, 0, 0, 2, 0, 54, 78, 0, 3, 1, 64, 113, 0, 4, 2, 72, 181, 0, 5, 8, 74, 403, 0,
     ];
-    print_example(1, &one);
-    print_example(2, &two);
-    print_example(3, &three);
+    print_example(rt, 1, &one)?;
+    print_example(rt, 2, &two)?;
+    print_example(rt, 3, &three)
 }

@@ -1,5 +1,4 @@
 -- `answers::built_answer` meets its contract, case by case. Assumes nothing.
-use borrow.Author.Rules.{rules}
 use mathlib.Core.Path.{sym, ap, ◌∙◌}
 use Rattle.definitions.specs.Outcome.{refused}
 use Rattle.frame.specs.Answers.{built_of}

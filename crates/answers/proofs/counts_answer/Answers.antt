@@ -1,5 +1,4 @@
 -- `answers::counts_answer` meets its contract, case by case. Assumes nothing.
-use borrow.Author.Rules.{rules}
 use mathlib.Core.Path.{sym, ap, ◌∙◌}
 use Rattle.recordings.specs.Placed.{refused_at}
 use Rattle.recording_reader.specs.Answers.{counts_of}

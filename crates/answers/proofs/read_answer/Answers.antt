@@ -1,5 +1,4 @@
 -- `read_answer` meets its contract: the entry's promise, as numbers. Assumes nothing.
-use borrow.Author.Rules.{rules}
 use mathlib.Core.Path.{sym, ap, ◌∙◌}
 use Rattle.definitions.specs.Reading.{buffer_core}
 use Rattle.frame.specs.Answers.{reading_of}

@@ -1,5 +1,4 @@
 -- `refused_frame` meets its contract: the refusal's number, and 0 elsewhere. Assumes nothing.
-use borrow.Author.Rules.{rules}
 use mathlib.Core.Path.{ap}
 use Rattle.definitions.specs.Outcome.{refused}
 use Rattle.answers.specs.Flat.{frame_numbers}

@@ -1,6 +1,5 @@
 -- `bit_groups::copy_by_five` meets its contract: two or four groups of 16 octets, the last of which ends the run; fewer are copied one by one.
 -- Assumes nothing.
-use borrow.Author.Rules.{rules}
 use mathlib.Core.Path.{◌∙◌}
 use Prim.Native.Nat.{◌+◌, ◌*◌, ◌-◌}
 use native.Mathlib.Omega.{arith}

@@ -1,5 +1,4 @@
 -- `bit_groups::group_whole` meets its contract: the octets come to an array, and from there to the target, as `through` says. Assumes nothing.
-use borrow.Author.Rules.{rules}
 use native.Mathlib.Omega.{arith}
 use Prim.Native.Nat.{◌*◌}
 use lib.ListN.{drop, replicate, length-drop}

@@ -1,5 +1,4 @@
 -- `bits::bit_at` meets its contract: the shift brings the bit down, and the mask keeps it. Assumes nothing.
-use borrow.Author.Rules.{rules}
 use native.Mathlib.Omega.{arith}
 use Rattle.bits.proofs.Masks.{low3, bit_is}
 use Rattle.bits.proofs.bit_at.Goals as goal

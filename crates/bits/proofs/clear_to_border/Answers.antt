@@ -1,6 +1,5 @@
 -- `bits::clear_to_border` meets its contract: it stores 0 in the bits of the octet that `end` cuts, and nothing where `end` is at a border.
 -- Assumes nothing.
-use borrow.Author.Rules.{rules}
 use native.Mathlib.Omega.{arith}
 use lib.Pow.{pow_pos}
 use Rattle.bits.proofs.Masks.{low3, cleared, at_border}

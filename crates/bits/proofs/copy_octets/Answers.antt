@@ -1,5 +1,4 @@
 -- `bits::copy_octets` meets its contract: a run that starts at a border is copied whole, any other shifted. Assumes nothing.
-use borrow.Author.Rules.{rules}
 use native.Mathlib.Omega.{arith}
 use mathlib.Core.Path.{◌≡◌, ap, ◌∙◌}
 use Prim.Native.Nat.{ℕ, ◌+◌, ◌*◌, ◌/◌}

@@ -1,5 +1,4 @@
 -- `bits::copy_part` meets its contract: the field of the source goes into one octet of the target, as `part` says. Assumes nothing.
-use borrow.Author.Rules.{rules}
 use native.Mathlib.Omega.{arith}
 use mathlib.Core.Path.{◌≡◌, sym, ap, ◌∙◌}
 use Prim.Native.Nat.{◌%◌}

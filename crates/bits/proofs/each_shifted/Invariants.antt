@@ -1,15 +1,8 @@
 -- `bits::each_shifted` meets its contract: each turn stores one octet made of two neighbours, as `octet_turn` says. Assumes nothing.
-use borrow.Author.Rules.{rules}
-use mathlib.Core.Path.{◌≡◌, refl, sym, ap, ◌∙◌}
-use Prim.Native.Nat.{ℕ, ◌+◌, ◌*◌, ◌-◌, ◌/◌, ◌%◌, ◌≤◌, ◌<◌, ◌^◌}
-use native.Mathlib.Omega.{arith}
-use mathlib.Core.List.{List}
-use lib.ListN.{length, get_or, drop, length-set}
-use Rattle.bits.specs.Bits.{bits, num, copied, Octets}
-use Rattle.bits.proofs.BitLaws.{copied-zero, window_field}
-use Rattle.bits.proofs.Masks.{octet_turn, shifted_is}
-use lib.Bits.{bit_or}
-use native.Mathlib.Numerals.{add-one}
+use mathlib.Core.Path.{◌≡◌}
+use Prim.Native.Nat.{◌+◌, ◌*◌, ◌-◌, ◌≤◌}
+use lib.ListN.{length, drop}
+use Rattle.bits.specs.Bits.{bits, copied}
 use Rattle.bits.proofs.each_shifted.Given as goal
 
 abbrev pub invariant-loop-t : goal.invariant-loop-t

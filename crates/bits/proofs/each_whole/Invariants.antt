@@ -1,13 +1,8 @@
 -- `bits::each_whole` meets its contract: each turn stores one octet, as `octet_turn` says. Assumes nothing.
-use borrow.Author.Rules.{rules}
-use mathlib.Core.Path.{◌≡◌, refl, sym, ap, ◌∙◌}
-use Prim.Native.Nat.{ℕ, ◌+◌, ◌*◌, ◌-◌, ◌≤◌, ◌<◌}
-use native.Mathlib.Omega.{arith}
-use mathlib.Core.List.{List}
-use lib.ListN.{length, get_or, drop, length-set}
-use Rattle.bits.specs.Bits.{bits, num, copied}
-use Rattle.bits.proofs.BitLaws.{copied-zero, octet_field}
-use Rattle.bits.proofs.Masks.{octet_turn}
+use mathlib.Core.Path.{◌≡◌}
+use Prim.Native.Nat.{◌*◌, ◌-◌, ◌≤◌}
+use lib.ListN.{length, drop}
+use Rattle.bits.specs.Bits.{bits, copied}
 use Rattle.bits.proofs.each_whole.Given as goal
 
 abbrev pub invariant-loop-t : goal.invariant-loop-t

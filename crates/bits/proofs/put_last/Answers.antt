@@ -1,5 +1,4 @@
 -- `bits::put_last` meets its contract: eight bits are read, and all but the first k made 0, as `last_octet` says. Assumes nothing.
-use borrow.Author.Rules.{rules}
 use native.Mathlib.Omega.{arith}
 use lib.Pow.{pow_pos}
 use Rattle.bits.proofs.BitLaws.{last_octet, no_last}

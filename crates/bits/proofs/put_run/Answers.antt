@@ -1,6 +1,5 @@
 -- `bits::put_run` meets its contract: the run is copied up to a border, then by whole octets, and its last octet is written filled up; a run
 -- that ends before the first border is copied, and then filled up. Assumes nothing.
-use borrow.Author.Rules.{rules}
 use native.Mathlib.Omega.{arith}
 use Prim.Native.Nat.{ℕ, ◌+◌, ◌-◌, ◌*◌, ◌/◌, ◌%◌, ◌^◌}
 use lib.Bits.{bit_and}

@@ -1,5 +1,4 @@
 -- `converter::measure` meets its contract: the reading's refusal, or 9 for what would be written. Assumes nothing.
-use borrow.Author.Rules.{rules}
 use mathlib.Core.Path.{sym, ap, ◌∙◌}
 use Rattle.frame.specs.Answers.{format_of}
 use Rattle.recording_reader.specs.Answers.{counts_of}
@@ -10,19 +9,16 @@ pub returns-in_default : goal.returns-in_default
 returns-in_default c =
     λ r.
     let a = c.args in
-    let e = c.enum_told-1.given in
-    ap counts_of e.1 ∙ measured_refused (format_of a.f) (format_of a.g) r a.s.now _ _ _ (sym (ap counts_of e.1) ∙ c.read_all-a.ensures r)
+    ap counts_of c.in_default.is ∙ measured_refused (format_of a.f) (format_of a.g) r a.s.now _ _ _ (sym (ap counts_of c.in_default.is) ∙ c.read_all-a.ensures r)
 
 pub returns-then-need-gt-LIMIT : goal.returns-then-need-gt-LIMIT
 returns-then-need-gt-LIMIT c =
     λ r.
     let a = c.args in
-    let e = c.a-1.given in
-    measured_long (format_of a.f) (format_of a.g) r a.s.now _ _ (sym (ap counts_of e.1) ∙ c.read_all-a.ensures r) c.if-need-gt-LIMIT.true
+    measured_long (format_of a.f) (format_of a.g) r a.s.now _ _ (sym (ap counts_of c.in-Done.is) ∙ c.read_all-a.ensures r) c.if-need-gt-LIMIT.true
 
 pub returns : goal.returns
 returns c =
     λ r.
     let a = c.args in
-    let e = c.a-1.given in
-    measured (format_of a.f) (format_of a.g) r a.s.now _ _ (sym (ap counts_of e.1) ∙ c.read_all-a.ensures r) c.if-need-gt-LIMIT.false
+    measured (format_of a.f) (format_of a.g) r a.s.now _ _ (sym (ap counts_of c.in-Done.is) ∙ c.read_all-a.ensures r) c.if-need-gt-LIMIT.false

@@ -1,5 +1,4 @@
 -- `refusal_number` meets its contract, case by case. Assumes nothing.
-use borrow.Author.Rules.{rules}
 use mathlib.Core.Path.{sym, ap}
 use Rattle.frame.specs.Answers.{number_of}
 use Rattle.frame.proofs.refusal_number.Goals as goal

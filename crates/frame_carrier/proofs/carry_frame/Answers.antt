@@ -92,7 +92,7 @@ returns-in-If2 c =
     let qu = c.quality_in in
     let fo = c.first_octet-first in
     let ff = front_fields (format_of a.f) a.src.now x (octets (format_of a.f) x.type) p.begins in
-    done_if2 (format_of a.f) a.r a.src.now a.out.now c.move_core.new.out x ty.result qu.result fo.result (ty.ensures ∙ ff.0) (qu.ensures ∙ ff.1) (search rules) (format_of a.g) c.core_at-i.result _ (λ k. (c.shared_slice_known-1.given k).fits) (ap format_of c.in-If2.is) p c.if-t-gt-LAST_CORE.false fo.ensures c.core_at-i.ensures.0 refl c.move_core.ensures
+    done_if2 (format_of a.f) a.r a.src.now a.out.now c.move_core.new.out x ty.result qu.result fo.result (ty.ensures ∙ ff.0) (qu.ensures ∙ ff.1) (search rules) (format_of a.g) c.core_at-i.result _ (λ k. search rules) (ap format_of c.in-If2.is) p c.if-t-gt-LAST_CORE.false fo.ensures c.core_at-i.ensures.0 refl c.move_core.ensures
 
 pub returns-in-Storage : goal.returns-in-Storage
 returns-in-Storage c =

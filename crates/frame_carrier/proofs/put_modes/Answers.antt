@@ -1,5 +1,4 @@
 -- `frame_carrier::put_modes` meets its contract: the CRC is that of the octets behind the header. Assumes nothing.
-use borrow.Author.Rules.{rules}
 use mathlib.Core.Path.{ap₂, ◌∙◌}
 use mathlib.Core.List.{◌∷◌}
 use Prim.Native.Nat.{◌+◌, ◌-◌, ◌*◌}
@@ -16,44 +15,45 @@ use Rattle.frame_carrier.proofs.put_modes.Goals as goal
 pub slice_bounds-crc_of-count : goal.slice_bounds-crc_of-count
 slice_bounds-crc_of-count c =
     omega (arith, c.requires.2, (sizes c.args.t c.requires.0).some)
--- TODO no such goal: part-crc-of-start : tie.Need-slice-bounds-crc-of-start
-part-crc-of-start c =
-    omega (arith, c.before.before.requires.2, (sizes c.before.before.args.t c.before.before.requires.0).some)
+
+pub slice_bounds-crc_of-start : goal.slice_bounds-crc_of-start
+slice_bounds-crc_of-start c =
+    omega (arith, c.requires.2, (sizes c.args.t c.requires.0).some)
 
 pub class_a-requires : goal.class_a-requires
 class_a-requires c =
-    omega (arith, c.before.before.before.requires.0)
+    omega (arith, c.requires.0)
 
 pub crc_of-crc-requires : goal.crc_of-crc-requires
 crc_of-crc-requires c =
-    let d = c.before.before.before.before.args.out.now in
-    let s = sizes c.before.before.before.before.args.t c.before.before.before.before.requires.0 in
-    omega (arith, c.class_a.ensures.0, (class_a_within c.before.before.before.before.args.t s.type_known).0, c.before.before.before.before.requires.2, length-take-le (length d - 3) (drop 3 d) (omega (arith, length-drop 3 d)), length-drop 3 d)
+    let d = c.args.out.now in
+    let s = sizes c.args.t c.requires.0 in
+    omega (arith, c.class_a.ensures.0, (class_a_within c.args.t s.type_known).0, c.requires.2, length-take-le (length d - 3) (drop 3 d) (omega (arith, length-drop 3 d)), length-drop 3 d)
 
 pub bounds-out-0 : goal.bounds-out-0
 bounds-out-0 c =
-    omega (arith, c.before.before.before.before.before.requires.2)
+    omega (arith, c.requires.2)
 
 pub overflow_mul-out : goal.overflow_mul-out
 overflow_mul-out c =
-    omega (arith, c.indication_of.ensures, indication_small c.before.before.before.before.before.before.args.t c.before.before.before.before.before.before.requires.0)
+    omega (arith, c.indication_of.ensures, indication_small c.args.t c.requires.0)
 
 pub overflow_add-out : goal.overflow_add-out
 overflow_add-out c =
-    omega (arith, c.indication_of.ensures, indication_small c.before.before.before.before.before.before.args.t c.before.before.before.before.before.before.requires.0, c.before.before.before.before.before.before.requires.1)
+    omega (arith, c.indication_of.ensures, indication_small c.args.t c.requires.0, c.requires.1)
 
 pub bounds-out-1 : goal.bounds-out-1
 bounds-out-1 c =
-    let d = c.before.before.before.before.before.before.args.out.now in omega (arith, c.before.before.before.before.before.before.requires.2, length-set d 0 c.before.before.before.before.before.before.args.first)
+    let d = c.args.out.now in omega (arith, c.requires.2, length-set d 0 c.args.first)
 
 pub bounds-out-2 : goal.bounds-out-2
 bounds-out-2 c =
-    let d = c.before.before.before.before.before.before.args.out.now in omega (arith, c.before.before.before.before.before.before.requires.2, length-set d 0 c.before.before.before.before.before.before.args.first, length-set (set d 0 c.before.before.before.before.before.before.args.first) 1 (c.indication_of.result * 16 + c.before.before.before.before.before.before.args.r))
+    let d = c.args.out.now in omega (arith, c.requires.2, length-set d 0 c.args.first, length-set (set d 0 c.args.first) 1 (c.indication_of.result * 16 + c.args.r))
 
 pub returns : goal.returns
 returns c =
-    let a = c.before.before.before.before.before.before.args in
+    let a = c.args in
     let d = a.out.now in
     let k = c.crc_of-crc.ensures ∙ ap₂ (λ n l. num 8 (crc (take n (bits l)))) c.class_a.ensures.0 (take_all (length d - 3) (drop 3 d) (omega (arith, length-drop 3 d))) in
-    three-set d _ _ _ (omega (arith, c.before.before.before.before.before.before.requires.2))
+    three-set d _ _ _ (omega (arith, c.requires.2))
     ∙ ap₂ (λ i z. a.first ∷ (i * 16 + a.r) ∷ z ∷ drop 3 d) c.indication_of.ensures k

@@ -1,5 +1,5 @@
 -- `parity::odd_bits` meets its contract. The loop's invariant: `s` is the CRC of the first i bits. Assumes nothing.
-use Rattle.std.proofs.Common.{◌≡◌, ◌-◌, ◌≤◌, [], ◌∷◌, ◌++◌, take, sym, ap, ◌∙◌, arith, rules}
+use Rattle.std.proofs.Common.{◌≡◌, [], ◌∷◌, ◌++◌, take, sym, ap, ◌∙◌, arith}
 use Rattle.bits.specs.Bits.{bits, num}
 use Rattle.parity.specs.Crc.{crc}
 use Rattle.parity.proofs.Octets.{take_bit}

@@ -1,8 +1,7 @@
 -- `parity::odd_bits` meets its contract. The loop's invariant: `s` is the CRC of the first i bits. Assumes nothing.
-use Rattle.std.proofs.Common.{◌≡◌, ◌-◌, ◌≤◌, [], ◌∷◌, ◌++◌, take, sym, ap, ◌∙◌, arith, rules}
+use Rattle.std.proofs.Common.{◌≡◌, ◌-◌, ◌≤◌, take}
 use Rattle.bits.specs.Bits.{bits, num}
 use Rattle.parity.specs.Crc.{crc}
-use Rattle.parity.proofs.Octets.{take_bit}
 use Rattle.parity.proofs.odd_bits.Given as goal
 
 abbrev pub invariant-loop-i : goal.invariant-loop-i

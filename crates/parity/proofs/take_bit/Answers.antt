@@ -1,5 +1,5 @@
 -- `parity::take_bit` meets its contract: the bit is added at the top of the register, and one step is made. Assumes nothing.
-use Rattle.std.proofs.Common.{◌∙◌, rules}
+use Rattle.std.proofs.Common.{◌∙◌}
 use Rattle.parity.proofs.Octets.{bit_taken}
 use Rattle.parity.proofs.take_bit.Goals as goal
 

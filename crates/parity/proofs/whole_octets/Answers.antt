@@ -1,5 +1,5 @@
 -- `parity::whole_octets` meets its contract. The loop's invariant: `r` is the CRC of the first i octets. Assumes nothing.
-use Rattle.std.proofs.Common.{◌≡◌, ◌-◌, ◌*◌, ◌≤◌, take, sym, refl, ap, ◌∙◌, arith, rules}
+use Rattle.std.proofs.Common.{◌≡◌, ◌*◌, take, sym, refl, ap, ◌∙◌, arith}
 use Rattle.bits.specs.Bits.{bits, num}
 use Rattle.parity.specs.Crc.{crc}
 use Rattle.parity.proofs.Octets.{take-octet}

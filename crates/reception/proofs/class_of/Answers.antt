@@ -1,5 +1,4 @@
 -- `reception::class_of` meets its contract, by the type. Assumes nothing.
-use borrow.Author.Rules.{rules}
 use mathlib.Core.Path.{ap}
 use borrow.Author.Tests.{le-leb, lt-leb, eq-eqb, ne_eqb}
 use Rattle.definitions.specs.Reception.{speech, sid}

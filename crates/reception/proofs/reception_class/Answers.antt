@@ -1,5 +1,4 @@
 -- `reception::reception_class` meets its contract: the numbers, then the type, then its class. Assumes nothing.
-use borrow.Author.Rules.{rules}
 use mathlib.Core.Path.{sym, ap, ◌∙◌}
 use native.Mathlib.Omega.{arith}
 use borrow.Author.Tests.{le-leb, lt-leb}

@@ -4,7 +4,6 @@ use Prim.Native.Nat.{ℕ}
 use native.Mathlib.Omega.{arith}
 use Rattle.recordings.specs.Placed.{refused_at}
 use Rattle.frame.specs.Answers.{number_of}
-use borrow.Author.Rules.{rules}
 use Rattle.recording_reader.proofs.handed_on.Goals as goal
 
 pub returns-in-Refused : goal.returns-in-Refused

@@ -1,13 +1,9 @@
 -- `recording_reader::has_file_header` meets its contract: the octets in front of the place reached agree with the file header. Assumes nothing.
 use mathlib.Core.Path.{◌≡◌}
 use Prim.Native.Nat.{ℕ, ◌-◌, ◌<◌, ◌≤◌}
-use native.Mathlib.Omega.{arith}
-use borrow.Author.Count.{below_more}
-use borrow.Author.Rules.{rules}
 use lib.ListN.{get_or}
 use Rattle.definitions.specs.Frames.{storage}
 use Rattle.recordings.specs.Recordings.{file_header}
-use Rattle.recording_reader.proofs.HeaderLaws.{too_short, differs, agrees}
 use Rattle.recording_reader.proofs.has_file_header.Given as goal
 
 abbrev pub invariant-loop-i : goal.invariant-loop-i

@@ -2,7 +2,6 @@
 use mathlib.Core.Path.{sym, ap, ◌∙◌}
 use Rattle.recordings.specs.Recordings.{headed}
 use Rattle.frame.specs.Answers.{format_of}
-use borrow.Author.Rules.{rules}
 use Rattle.recording_reader.proofs.headed.Goals as goal
 
 pub returns-in-Storage : goal.returns-in-Storage

@@ -1,7 +1,5 @@
 -- `recording_reader::read_all` meets its contract: too long, then the file header, then the frames. Assumes nothing.
-use borrow.Author.Rules.{rules}
 use mathlib.Core.Path.{sym, ◌∙◌}
-use borrow.Author.Tests.{not-true, not-false}
 use Rattle.frame.specs.Answers.{format_of}
 use Rattle.recording_reader.proofs.CallLaws.{header-there, too_long, not_headed, scanned}
 use Rattle.recording_reader.proofs.read_all.Goals as goal

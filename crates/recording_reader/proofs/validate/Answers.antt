@@ -1,5 +1,4 @@
 -- `recording_reader::validate` meets its contract: the format is judged, then the recording. Assumes nothing.
-use borrow.Author.Rules.{rules}
 use mathlib.Core.Path.{sym, ap, ◌∙◌}
 use Rattle.frame.specs.Answers.{format_of}
 use Rattle.recording_reader.specs.Answers.{counts_of}
@@ -14,15 +13,13 @@ pub returns-in_default-a : goal.returns-in_default-a
 returns-in_default-a c =
     let a = c.args in
     let n = c.format_numbered in
-    let f = c.f-1.given in
-    let e = c.enum_told-in_default-a-1.given in
-    ap counts_of e.1
-    ∙ refused_recording a.format a.s.now (format_of f.0.0) _ _ _ (found_is a.format n.result f.0.0 n.ensures f.1) (sym (ap counts_of e.1) ∙ c.read_all-a.ensures 0)
+    let e = c.in_default-a in
+    ap counts_of e.is
+    ∙ refused_recording a.format a.s.now (format_of c.in-Is.f) _ _ _ (found_is a.format n.result c.in-Is.f n.ensures c.in-Is.is) (sym (ap counts_of e.is) ∙ c.read_all-a.ensures 0)
 
 pub returns : goal.returns
 returns c =
     let a = c.args in
     let n = c.format_numbered in
-    let f = c.f-1.given in
-    let e = c.a-1.given in
-    valid_recording a.format a.s.now (format_of f.0.0) _ _ (found_is a.format n.result f.0.0 n.ensures f.1) (sym (ap counts_of e.1) ∙ c.read_all-a.ensures 0)
+    let e = c.in-Done in
+    valid_recording a.format a.s.now (format_of c.in-Is.f) _ _ (found_is a.format n.result c.in-Is.f n.ensures c.in-Is.is) (sym (ap counts_of e.is) ∙ c.read_all-a.ensures 0)

@@ -1,9 +1,8 @@
 -- `recording_writer::copy_all` meets its contract: each turn copies one octet more. Assumes nothing.
-use mathlib.Core.Path.{◌≡◌, refl, ap, ◌∙◌}
-use Prim.Native.Nat.{◌-◌, ◌≤◌}
+use mathlib.Core.Path.{refl, ap, ◌∙◌}
 use native.Mathlib.Omega.{arith}
-use lib.ListN.{length, get_or, set, length-set}
-use lib.Seq.{paste, paste-zero}
+use lib.ListN.{get_or, set, length-set}
+use lib.Seq.{paste-zero}
 use Rattle.recording_writer.proofs.CopyLaws.{paste_one, paste-whole}
 use Rattle.recording_writer.proofs.copy_all.Goals as goal
 

@@ -1,10 +1,8 @@
 -- `recording_writer::copy_all` meets its contract: each turn copies one octet more. Assumes nothing.
-use mathlib.Core.Path.{◌≡◌, refl, ap, ◌∙◌}
+use mathlib.Core.Path.{◌≡◌}
 use Prim.Native.Nat.{◌-◌, ◌≤◌}
-use native.Mathlib.Omega.{arith}
-use lib.ListN.{length, get_or, set, length-set}
-use lib.Seq.{paste, paste-zero}
-use Rattle.recording_writer.proofs.CopyLaws.{paste_one, paste-whole}
+use lib.ListN.{length}
+use lib.Seq.{paste}
 use Rattle.recording_writer.proofs.copy_all.Given as goal
 
 abbrev pub invariant-loop-i : goal.invariant-loop-i

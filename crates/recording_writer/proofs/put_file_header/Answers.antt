@@ -1,5 +1,4 @@
 -- `recording_writer::put_file_header` meets its contract: IF1 and IF2 have no file header. Assumes nothing.
-use borrow.Author.Rules.{rules}
 use mathlib.Core.Path.{sym, ap, ◌∙◌, subst}
 use Prim.Native.Nat.{◌≤◌}
 use lib.ListN.{length}

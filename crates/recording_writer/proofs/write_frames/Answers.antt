@@ -1,12 +1,13 @@
 -- `recording_writer::write_frames` meets its contract: what is written and what is still to come make the conversion. Assumes nothing.
-use borrow.Author.Rules.{rules}
 use mathlib.Core.Path.{◌≡◌, ap, ◌∙◌}
 use mathlib.Core.Bool.{true}
-use Prim.Native.Nat.{ℕ, ◌+◌, ◌-◌, ◌≤◌}
+use mathlib.Core.List.{List}
+use Prim.Native.Nat.{ℕ, ◌+◌, ◌-◌, ◌<◌, ◌≤◌}
 use native.Mathlib.Omega.{arith}
-use lib.ListN.{length, drop, length-drop}
+use lib.ListN.{length, take, drop, length-drop}
 use lib.Seq.{length-take-le}
-use Rattle.definitions.specs.Frames.{known, octets}
+use Rattle.bits.specs.Bits.{bits}
+use Rattle.definitions.specs.Frames.{Format, known, octets, type_in}
 use Rattle.definitions.proofs.Tables.{sized}
 use Rattle.frame.specs.Answers.{format_of}
 use Rattle.recordings.specs.Recordings.{limit}
@@ -14,30 +15,23 @@ use Rattle.recording_writer.proofs.WriteLaws.{header-room, header_long, Written,
 use Rattle.recording_writer.proofs.write_frames.Goals as goal
 
 -- the frame at hand: its type, and the places behind it
-type_is : (c : tie.After-type-in invariant-loop decreases-loop) → c.type-in.result ≡ (at_front c.before.before.before.loop.invariant c.before.before.loop-test.true).x.type
-type_is c = c.type-in.ensures ∙ part_type c.before.before.before.loop.invariant c.before.before.loop-test.true
+module _ {f g : Format} {r : ℕ} {s d₀ d : List ℕ} {at to : ℕ} (w : Written f g r s d₀ d at to) (l : at < length s) (t : ℕ)
+    (e : t ≡ type_in f (bits (take (length s - at) (drop at s)))) where
+  type_is : t ≡ (at_front w l).x.type
+  type_is = e ∙ part_type w l
 
-type-there : (c : tie.After-type-in invariant-loop decreases-loop) → known c.type-in.result ≡ true
-type-there c = ap known (type_is c) ∙ (at_front c.before.before.before.loop.invariant c.before.before.loop-test.true).valid.type_known
+  type-there : known t ≡ true
+  type-there = ap known type_is ∙ (at_front w l).valid.type_known
 
-room-there : (c : tie.After-type-in invariant-loop decreases-loop) → c.before.before.before.loop.to ≤ length c.before.before.before.loop.out
-room-there c = omega (arith, (front_room c.before.before.before.loop.invariant c.before.before.loop-test.true).0)
+  at_there : (m : ℕ) → m ≡ octets f t → (1 ≤ m) × (at + m ≤ length s)
+  at_there m em =
+      let q : m ≡ octets f (at_front w l).x.type = em ∙ ap (octets f) type_is in
+      (omega (arith, (sized f (at_front w l).x.type (at_front w l).valid.type_known).some-octet), omega (arith, front_octets w l, w.within))
 
-at_there : (c : tie.After-type-in invariant-loop decreases-loop) (m : ℕ) → m ≡ octets (format_of c.before.before.before.before.before.before.before.before.before.before.before.args.f) c.type-in.result
-    → (1 ≤ m) × (c.before.before.before.loop.at + m ≤ length c.before.before.before.before.before.before.before.before.before.before.before.args.s.now)
-at_there c m e =
-    let f = format_of c.before.before.before.before.before.before.before.before.before.before.before.args.f in
-    let w = c.before.before.before.loop.invariant in
-    let l = c.before.before.loop-test.true in
-    let x = (at_front w l).x in
-    let q : m ≡ octets (format_of c.before.before.before.before.before.before.before.before.before.before.before.args.f) (at_front c.before.before.before.loop.invariant c.before.before.loop-test.true).x.type = e ∙ ap (octets f) (type_is c) in
-    (omega (arith, (sized f x.type (at_front w l).valid.type_known).some-octet), omega (arith, front_octets w l, w.within))
-
-to_there : (c : tie.After-type-in invariant-loop decreases-loop) (m : ℕ) → m ≡ octets (format_of c.before.before.before.before.before.before.before.before.before.before.before.args.g) c.type-in.result
-    → c.before.before.before.loop.to + m ≤ limit
-to_there c m e =
-    let q : m ≡ octets (format_of c.before.before.before.before.before.before.before.before.before.before.before.args.g) (at_front c.before.before.before.loop.invariant c.before.before.loop-test.true).x.type = e ∙ ap (octets (format_of c.before.before.before.before.before.before.before.before.before.before.before.args.g)) (type_is c) in
-    omega (arith, (front_room c.before.before.before.loop.invariant c.before.before.loop-test.true).1)
+  to_there : (m : ℕ) → m ≡ octets g t → to + m ≤ limit
+  to_there m em =
+      let q : m ≡ octets g (at_front w l).x.type = em ∙ ap (octets g) type_is in
+      omega (arith, (front_room w l).1)
 
 pub put_file_header-to-requires : goal.put_file_header-to-requires
 put_file_header-to-requires c =
@@ -54,10 +48,11 @@ type_in-t-requires c =
 
 pub slice_bounds-carry_frame-count : goal.slice_bounds-carry_frame-count
 slice_bounds-carry_frame-count c =
-    room-there c
--- TODO no such goal: part-carry-frame-start : tie.Need-slice-bounds-carry-frame-start invariant-loop decreases-loop
-part-carry-frame-start c =
-    room-there c
+    omega (arith, (front_room c.loop-at.invariant c.loop-at-test.true).0)
+
+pub slice_bounds-carry_frame-start : goal.slice_bounds-carry_frame-start
+slice_bounds-carry_frame-start c =
+    omega (arith, (front_room c.loop-at.invariant c.loop-at-test.true).0)
 
 pub carry_frame-requires : goal.carry_frame-requires
 carry_frame-requires c =
@@ -66,23 +61,23 @@ carry_frame-requires c =
 
 pub octets_by_bits-at-requires : goal.octets_by_bits-at-requires
 octets_by_bits-at-requires c =
-    type-there c
+    type-there c.loop-at.invariant c.loop-at-test.true _ c.type_in-t.ensures
 
 pub overflow_add-at : goal.overflow_add-at
 overflow_add-at c =
-    omega (arith, at_there c _ c.octets_by_bits-at.ensures)
+    omega (arith, at_there c.loop-at.invariant c.loop-at-test.true _ c.type_in-t.ensures _ c.octets_by_bits-at.ensures)
 
 pub octets_by_bits-to-requires : goal.octets_by_bits-to-requires
 octets_by_bits-to-requires c =
-    type-there c
+    type-there c.loop-at.invariant c.loop-at-test.true _ c.type_in-t.ensures
 
 pub overflow_add-to : goal.overflow_add-to
 overflow_add-to c =
-    omega (arith, to_there c _ c.octets_by_bits-to.ensures)
+    omega (arith, to_there c.loop-at.invariant c.loop-at-test.true _ c.type_in-t.ensures _ c.octets_by_bits-to.ensures)
 
 pub loop-at-smaller : goal.loop-at-smaller
 loop-at-smaller c =
-    omega (arith, at_there c _ c.octets_by_bits-at.ensures)
+    omega (arith, at_there c.loop-at.invariant c.loop-at-test.true _ c.type_in-t.ensures _ c.octets_by_bits-at.ensures)
 
 pub loop-at-preserved : goal.loop-at-preserved
 loop-at-preserved c =

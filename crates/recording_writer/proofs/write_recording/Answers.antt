@@ -1,5 +1,4 @@
 -- `recording_writer::write_recording` meets its contract: towards its own format a recording is what a conversion writes. Assumes nothing.
-use borrow.Author.Rules.{rules}
 use mathlib.Core.Path.{sym, ap, ◌∙◌}
 use native.Mathlib.Omega.{arith}
 use lib.ListN.{length}

@@ -1,7 +1,6 @@
 -- `report::counted` meets its contract, by the class. Assumes nothing.
 use mathlib.Core.Path.{sym, ap, ◌∙◌}
 use native.Mathlib.Omega.{arith}
-use borrow.Author.Rules.{rules}
 use Rattle.reception.specs.Classes.{reception_of}
 use Rattle.report.specs.Answers.{counts_of}
 use Rattle.report.specs.Counting.{one_more}

@@ -1,7 +1,5 @@
 -- `report::report_recording` meets its contract: too long, then the file header, then the frames. Assumes nothing.
 use mathlib.Core.Path.{sym, ◌∙◌}
-use borrow.Author.Rules.{rules}
-use borrow.Author.Tests.{not-true, not-false}
 use Rattle.definitions.specs.Frames.{storage}
 use Rattle.recording_reader.proofs.CallLaws.{header-there}
 use Rattle.report.proofs.CallLaws.{too_long, not_headed, scanned}

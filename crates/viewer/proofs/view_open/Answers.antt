@@ -1,7 +1,5 @@
 -- `viewer::view_open` meets its contract: the format, 9 and 8 are judged one after the other. Assumes nothing.
-use borrow.Author.Rules.{rules}
 use mathlib.Core.Path.{sym, ◌∙◌}
-use borrow.Author.Tests.{not-true, not-false}
 use Rattle.frame.specs.Answers.{format_of}
 use Rattle.recording_reader.proofs.CallLaws.{found_is, found_none}
 use Rattle.recordings.proofs.ViewCalls.{open_unknown, open_too_long, open_not_headed, open_first}
@@ -18,24 +16,21 @@ pub returns-then-rec-gt-LIMIT : goal.returns-then-rec-gt-LIMIT
 returns-then-rec-gt-LIMIT c =
     let a = c.args in
     let n = c.format_numbered in
-    let f = c.f-1.given in
     sym
-    (open_too_long a.format a.rec.now (format_of f.0.0) (found_is a.format n.result f.0.0 n.ensures f.1) c.if-rec-gt-LIMIT.true)
+    (open_too_long a.format a.rec.now (format_of c.in-Is.f) (found_is a.format n.result c.in-Is.f n.ensures c.in-Is.is) c.if-rec-gt-LIMIT.true)
 
 pub returns-then-not-headed : goal.returns-then-not-headed
 returns-then-not-headed c =
     let a = c.args in
     let n = c.format_numbered in
-    let f = c.f-1.given in
     sym
-    (open_not_headed a.format a.rec.now (format_of f.0.0) (found_is a.format n.result f.0.0 n.ensures f.1) c.if-rec-gt-LIMIT.false
+    (open_not_headed a.format a.rec.now (format_of c.in-Is.f) (found_is a.format n.result c.in-Is.f n.ensures c.in-Is.is) c.if-rec-gt-LIMIT.false
     (sym c.headed.ensures ∙ c.if-not-headed.true))
 
 pub returns : goal.returns
 returns c =
     let a = c.args in
     let n = c.format_numbered in
-    let f = c.f-1.given in
     sym
-    (open_first a.format a.rec.now (format_of f.0.0) (found_is a.format n.result f.0.0 n.ensures f.1) _ c.if-rec-gt-LIMIT.false
+    (open_first a.format a.rec.now (format_of c.in-Is.f) (found_is a.format n.result c.in-Is.f n.ensures c.in-Is.is) _ c.if-rec-gt-LIMIT.false
     (sym c.headed.ensures ∙ c.if-not-headed.false) c.header_octets.ensures.0)

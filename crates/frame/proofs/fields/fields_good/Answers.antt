@@ -1,6 +1,4 @@
 -- `fields::fields_good` meets its contract, test by test. Assumes nothing.
-use borrow.Author.Rules.{rules}
-use borrow.Author.Tests.{not-true, not-false}
 use Rattle.frame.specs.Answers.{format_of}
 use Rattle.frame.proofs.FieldLaws.{indication_high, request_high, sid_wrong, fields_right}
 use Rattle.frame.proofs.fields.fields_good.Goals as goal

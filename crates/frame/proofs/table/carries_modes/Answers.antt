@@ -1,5 +1,4 @@
 -- `table::carries_modes` meets its contract, format by format. Assumes nothing.
-use borrow.Author.Rules.{rules}
 use mathlib.Core.Path.{sym, ap}
 use Rattle.definitions.specs.Frames.{carries_modes}
 use Rattle.frame.specs.Answers.{format_of}

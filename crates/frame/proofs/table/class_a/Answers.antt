@@ -1,5 +1,4 @@
 -- `table::class_a` meets its contract: it is a column of the row. Assumes nothing.
-use borrow.Author.Rules.{rules}
 use mathlib.Core.Path.{ap}
 use native.Mathlib.Omega.{arith}
 use Rattle.frame.proofs.Types.{class_most}

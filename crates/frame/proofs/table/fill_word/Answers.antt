@@ -1,5 +1,4 @@
 -- `table::fill_word` meets its contract: antt computes each format's number. Assumes nothing.
-use borrow.Author.Rules.{rules}
 use mathlib.Core.Path.{sym, ap}
 use Rattle.definitions.specs.Frames.{core_bits, octets}
 use Rattle.frame.specs.Answers.{format_of}

@@ -1,5 +1,4 @@
 -- `table::if2_octets` meets its contract: the digit of its type. Assumes nothing.
-use borrow.Author.Rules.{rules}
 use mathlib.Core.Path.{ap, ◌∙◌}
 use Prim.Native.Nat.{ℕ, ◌*◌, ◌/◌, ◌^◌}
 use lib.Bits.{bit_and}

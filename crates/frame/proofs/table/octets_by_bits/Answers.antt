@@ -1,5 +1,4 @@
 -- `table::octets_by_bits` meets its contract: header and core are packed. Assumes nothing.
-use borrow.Author.Rules.{rules}
 use mathlib.Core.Path.{sym, ap₂, ◌∙◌}
 use Prim.Native.Nat.{ℕ, ◌+◌}
 use Rattle.bits.specs.Bits.{octets_for}

@@ -1,5 +1,4 @@
 -- `table::octets_of` meets its contract: each format has its column. Assumes nothing.
-use borrow.Author.Rules.{rules}
 use mathlib.Core.Path.{sym, ap, ◌∙◌}
 use native.Mathlib.Omega.{arith}
 use Rattle.definitions.specs.Frames.{if1, if2, storage, octets}

@@ -1,5 +1,4 @@
 -- `table::row` meets its contract: antt computes document 01's row of each type to the same numbers. Assumes nothing.
-use borrow.Author.Rules.{rules}
 use mathlib.Core.Path.{sym, ap, ◌∙◌}
 use Rattle.definitions.specs.Frames.{core_bits, class_a, octets}
 use Rattle.frame.specs.Rows.{row_for}
