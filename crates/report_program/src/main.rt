@@ -44,13 +44,17 @@ fn main(rt: HostRuntime) -> ExitCode {
     let mut buf = input_buffer();
     let read = read_input(&mut rt.stdin(), &mut buf);
     let Input::Octets(n) = read else {
-        let _ = rt.stderr().write_all(b"report: standard input cannot be read\n");
+        let _ = rt
+            .stderr()
+            .write_all(b"report: standard input cannot be read\n");
         return ExitCode::FAILURE;
     };
     let mut out = [0u8; 256];
     let k = text::report_text(&buf[..n], &mut out);
     if rt.stdout().write_all(&out[..k]).is_err() {
-        let _ = rt.stderr().write_all(b"report: standard output cannot be written\n");
+        let _ = rt
+            .stderr()
+            .write_all(b"report: standard output cannot be written\n");
         return ExitCode::FAILURE;
     }
     ExitCode::SUCCESS

@@ -1,11 +1,8 @@
 -- `report_program::text::put` meets its contract: after i turns the text ends with the first i octets. Assumes nothing.
-use mathlib.Core.Path.{◌≡◌, refl, ◌∙◌}
+use mathlib.Core.Path.{◌≡◌}
 use mathlib.Core.List.{◌++◌}
 use Prim.Native.Nat.{◌+◌, ◌-◌, ◌≤◌}
-use native.Mathlib.Omega.{arith}
-use borrow.Author.Rules.{rules}
-use lib.ListN.{length, take, length-set}
-use Rattle.report_program.proofs.TextLaws.{put_start, put_step, put-end}
+use lib.ListN.{length, take}
 use Rattle.report_program.proofs.text.put.Given as goal
 
 abbrev pub invariant-loop-i : goal.invariant-loop-i

@@ -3,7 +3,6 @@ use mathlib.Core.Path.{ap, ◌∙◌}
 use mathlib.Core.List.{◌++◌}
 use native.Mathlib.Omega.{arith}
 use Rattle.report_program.specs.Text.{line, «refusal=», «frame=», «octet=», report_text}
-use borrow.Author.Rules.{rules}
 use Rattle.report_program.proofs.text.refusal_text.Goals as goal
 
 pub returns : goal.returns

@@ -2,7 +2,6 @@
 use mathlib.Core.Path.{sym, ap, ◌∙◌}
 use Rattle.report.specs.Answers.{reported_of}
 use Rattle.report_program.specs.Text.{report_text}
-use borrow.Author.Rules.{rules}
 use Rattle.report_program.proofs.text.report_text.Goals as goal
 
 pub returns-in-Counts : goal.returns-in-Counts

@@ -5,7 +5,7 @@ use borrow.Author.Rules.{rules}
 use Rattle.vectors.proofs.frames.print_bits.Given as goal
 
 abbrev pub invariant-loop-j : goal.invariant-loop-j
-invariant-loop-j l = Unit
+invariant-loop-j g l = Unit
 
 abbrev pub decreases-loop-j : goal.decreases-loop-j
-decreases-loop-j l = l.bits - l.j
+decreases-loop-j g l = l.bits - l.j

@@ -6,7 +6,7 @@ use borrow.Author.Rules.{rules}
 use Rattle.vectors.proofs.print.octets.Given as goal
 
 abbrev pub invariant-loop-i : goal.invariant-loop-i
-invariant-loop-i l = Unit
+invariant-loop-i g l = Unit
 
 abbrev pub decreases-loop-i : goal.decreases-loop-i
-decreases-loop-i l = length l.s - l.i
+decreases-loop-i g l = length l.s - l.i

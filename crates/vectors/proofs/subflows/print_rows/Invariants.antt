@@ -5,7 +5,7 @@ use borrow.Author.Rules.{rules}
 use Rattle.vectors.proofs.subflows.print_rows.Given as goal
 
 abbrev pub invariant-loop-i : goal.invariant-loop-i
-invariant-loop-i l = l.i ≤ length l.rows
+invariant-loop-i g l = l.i ≤ length l.rows
 
 abbrev pub decreases-loop-i : goal.decreases-loop-i
-decreases-loop-i l = length l.rows - l.i
+decreases-loop-i g l = length l.rows - l.i
