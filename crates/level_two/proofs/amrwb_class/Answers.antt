@@ -1,5 +1,4 @@
 -- `amrwb_class` meets its contract: the entry's promise, as numbers. Assumes nothing.
-use borrow.Author.Rules.{rules}
 use mathlib.Core.Path.{sym, ap, ◌∙◌}
 use Rattle.definitions.specs.Outcome.{refused}
 use Rattle.reception.specs.Classes.{classified_of}

@@ -1,5 +1,4 @@
 -- `amrwb_convert_length` meets its contract: the entry's promise, as numbers. Assumes nothing.
-use borrow.Author.Rules.{rules}
 use mathlib.Core.Path.{ap, ◌∙◌}
 use Rattle.answers.specs.Flat.{placed_numbers}
 use Rattle.level_two.proofs.amrwb_convert_length.Goals as goal

@@ -1,5 +1,4 @@
 -- `amrwb_report` meets its contract: the entry's promise, as numbers. Assumes nothing.
-use borrow.Author.Rules.{rules}
 use mathlib.Core.Path.{sym, ap, ◌∙◌}
 use Rattle.recordings.specs.Placed.{refused_at}
 use Rattle.report.specs.Answers.{reported_of}
@@ -12,6 +11,6 @@ returns-in-Counts c =
 
 pub returns-in-Refused : goal.returns-in-Refused
 returns-in-Refused c =
-    let r = c.report_recording in
-    let g = c.e-1.given in
-    ap (λ n. report_numbers (refused_at n g.0.1.0 g.0.1.1.0)) c.refusal_number.ensures ∙ ap report_numbers (sym (ap reported_of g.1) ∙ r.ensures)
+    let g = c.in-Refused in
+    ap (λ n. report_numbers (refused_at n g.k g.at)) c.refusal_number.ensures
+    ∙ ap report_numbers (sym (ap reported_of g.is) ∙ c.report_recording.ensures)

@@ -1,5 +1,4 @@
 -- `amrwb_view_open` meets its contract: the entry's promise, as numbers. Assumes nothing.
-use borrow.Author.Rules.{rules}
 use mathlib.Core.Path.{sym, ap, ◌∙◌}
 use Rattle.recording_reader.specs.Answers.{counts_of}
 use Rattle.level_two.specs.Flat.{unshown, open_numbers}
@@ -11,6 +10,6 @@ returns-in-Done c =
 
 pub returns-in-Refused : goal.returns-in-Refused
 returns-in-Refused c =
-    let g = c.e-1.given in
-    c.unshown-in-Refused.ensures ∙ ap (λ n. unshown n g.0.1.0 g.0.1.1.0 0 0 0) c.refusal_number.ensures
-    ∙ ap open_numbers (sym (ap counts_of g.1) ∙ c.view_open.ensures)
+    let g = c.in-Refused in
+    c.unshown-in-Refused.ensures ∙ ap (λ n. unshown n g.k g.at 0 0 0) c.refusal_number.ensures
+    ∙ ap open_numbers (sym (ap counts_of g.is) ∙ c.view_open.ensures)

@@ -1,5 +1,4 @@
 -- `packed_octets` meets its contract: by the table of types up to 9, and above there is no core. Assumes nothing.
-use borrow.Author.Rules.{rules}
 use native.Mathlib.Omega.{arith}
 use Rattle.level_two.proofs.ViewLaws.{no_core}
 use Rattle.level_two.proofs.packed_octets.Goals as goal
