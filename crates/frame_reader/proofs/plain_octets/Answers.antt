@@ -16,7 +16,7 @@ octets_of-size-requires c =
 
 pub spare_clear-requires : goal.spare_clear-requires
 spare_clear-requires c =
-    (c.type_in-k.ensures, known-there (format_of c.args.f) c.args.s.now _ _ c.type_in-k.ensures c.octets_of-size.ensures.0 c.if-size-eq0.false, c.octets_of-size.ensures.0, c.if-s-size.false)
+    (c.type_in-k.ensures, known-there (format_of c.args.f) c.args.s.now _ _ c.type_in-k.ensures c.octets_of-size.ensures.0 (λ z. omega arith), c.octets_of-size.ensures.0, c.if-s-size.false)
 
 pub sid_fine-requires : goal.sid_fine-requires
 sid_fine-requires c =
@@ -29,7 +29,7 @@ returns-then-sid_fine c =
     let t = c.type_in-k in
     record {
       some = omega arith;
-      type_known = ap known (sym t.ensures) ∙ known-there (format_of c.args.f) c.args.s.now _ _ c.type_in-k.ensures c.octets_of-size.ensures.0 c.if-size-eq0.false;
+      type_known = ap known (sym t.ensures) ∙ known-there (format_of c.args.f) c.args.s.now _ _ c.type_in-k.ensures c.octets_of-size.ensures.0 (λ z. omega arith);
       no_modes = ap (carries_modes (format_of a.f)) (sym t.ensures) ∙ sym c.carries_modes.ensures ∙ c.if-carries_modes.false;
       size = c.octets_of-size.ensures.0 ∙ ap (octets (format_of a.f)) t.ensures;
       enough = c.if-s-size.false;
