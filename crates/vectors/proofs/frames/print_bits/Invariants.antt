@@ -1,7 +1,6 @@
 -- `print_bits` is safe and ends: every turn comes one bit nearer to the last. Assumes nothing.
 use Prim.Native.Nat.{◌-◌}
 use Prim.{Unit}
-use borrow.Author.Rules.{rules}
 use Rattle.vectors.proofs.frames.print_bits.Given as goal
 
 abbrev pub invariant-loop-j : goal.invariant-loop-j

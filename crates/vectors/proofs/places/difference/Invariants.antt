@@ -1,7 +1,6 @@
 -- `difference` is safe and ends: every turn comes one place nearer to 320. Assumes nothing.
 use Prim.Native.Nat.{◌-◌}
 use Prim.{Unit}
-use borrow.Author.Rules.{rules}
 use Rattle.vectors.proofs.places.difference.Given as goal
 
 abbrev pub invariant-loop-i : goal.invariant-loop-i

@@ -2,7 +2,6 @@
 use Prim.Native.Nat.{◌-◌}
 use Prim.{Unit}
 use lib.ListN.{length}
-use borrow.Author.Rules.{rules}
 use Rattle.vectors.proofs.print.octets.Given as goal
 
 abbrev pub invariant-loop-i : goal.invariant-loop-i

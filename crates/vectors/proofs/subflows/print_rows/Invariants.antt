@@ -1,7 +1,6 @@
 -- `print_rows` is safe and ends: every turn comes five numbers nearer to the rows' end. Assumes nothing.
 use Prim.Native.Nat.{◌-◌, ◌≤◌}
 use lib.ListN.{length}
-use borrow.Author.Rules.{rules}
 use Rattle.vectors.proofs.subflows.print_rows.Given as goal
 
 abbrev pub invariant-loop-i : goal.invariant-loop-i
