@@ -1,5 +1,4 @@
 -- `amrwb_build_if2` meets its contract: the entry's promise, as numbers. Assumes nothing.
-use borrow.Author.Rules.{rules}
 use mathlib.Core.Path.{ap, ◌∙◌}
 use Rattle.answers.specs.Flat.{answer_numbers}
 use Rattle.level_one.proofs.amrwb_build_if2.Goals as goal

@@ -1,7 +1,5 @@
 -- `amrwb_convert` meets its contract: format 3 is refused, and then it is the entry's promise, as numbers. Assumes nothing.
-use borrow.Author.Rules.{rules}
 use mathlib.Core.Path.{sym, ap, ◌∙◌}
-use borrow.Author.Tests.{not-true, not-false}
 use lib.ListN.{length}
 use Rattle.recordings.specs.Placed.{unless_at}
 use Rattle.recordings.specs.Conversion.{convert_call, counted_at, buffer_after}

@@ -1,7 +1,5 @@
 -- `amrwb_convert_length` meets its contract: format 3 is refused, and then it is the entry's promise, as numbers. Assumes nothing.
-use borrow.Author.Rules.{rules}
 use mathlib.Core.Path.{sym, ap, ◌∙◌}
-use borrow.Author.Tests.{not-true, not-false}
 use Rattle.recordings.specs.Placed.{unless_at}
 use Rattle.recordings.specs.Conversion.{length_call}
 use Rattle.answers.specs.Flat.{placed_numbers}

@@ -1,5 +1,4 @@
 -- `amrwb_read_frame` meets its contract: format 3 is refused, and then it is the entry's promise, as numbers. Assumes nothing.
-use borrow.Author.Rules.{rules}
 use mathlib.Core.Path.{sym, ap, ◌∙◌}
 use borrow.Author.Tests.{le-leb, lt-leb}
 use lib.ListN.{length}

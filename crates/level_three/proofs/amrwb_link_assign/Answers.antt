@@ -1,5 +1,4 @@
 -- `amrwb_link_assign` meets its contract: the entry's promise, as numbers. Assumes nothing.
-use borrow.Author.Rules.{rules}
 use mathlib.Core.Path.{ap, ◌∙◌}
 use Rattle.link_answers.specs.Flat.{link_numbers}
 use Rattle.level_three.proofs.amrwb_link_assign.Goals as goal

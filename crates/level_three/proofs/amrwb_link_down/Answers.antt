@@ -1,5 +1,4 @@
 -- `amrwb_link_down` meets its contract: the entry's promise, as numbers. Assumes nothing.
-use borrow.Author.Rules.{rules}
 use mathlib.Core.Path.{refl, ap, ap₂, ◌∙◌}
 use lib.ListN.{length}
 use Rattle.links.specs.Calls.{down_call}
