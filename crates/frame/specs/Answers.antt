@@ -1,5 +1,5 @@
 -- What the code's answers say: document 01's number and values for each case of an enum.
-use Rattle.std.specs.Prelude.{List, Bool, ℕ}
+use Rattle.std.specs.Prelude.{List, Bool, ℕ, Result, Ok, Err}
 use Rattle.definitions.specs.Outcome.{Outcome, refused, ok}
 use Rattle.definitions.specs.Frames as paper
 use Rattle.frame.specs.declared.Format.{Format}
@@ -7,12 +7,6 @@ use Rattle.frame.specs.declared.Format.TheVariants.{If1, If2, Storage}
 use Rattle.frame.specs.declared.Refusal.{Refusal}
 use Rattle.frame.specs.declared.Refusal.TheVariants.{NoOctets, ReservedType, TooShort, OctetsAfter, SpareBit, FieldRange, CrcMismatch, StorageHeader, TooLong, OutputShort, ArgumentRange, NoCodecOrder, FqcReserved, NoSet, SetPresent, NotInSet, SubflowBuffer}
 use Rattle.frame.specs.declared.FrameHeader.{FrameHeader}
-use Rattle.frame.specs.declared.Reading.{Reading}
-use Rattle.frame.specs.declared.Reading.TheVariants as reading
-use Rattle.frame.specs.declared.FormatFound.{FormatFound}
-use Rattle.frame.specs.declared.FormatFound.TheVariants.{Is, Unknown}
-use Rattle.frame.specs.declared.Built.{Built}
-use Rattle.frame.specs.declared.Built.TheVariants as built
 
 abbrev pub format_of : Format → paper.Format
 format_of If1 = paper.if1
@@ -43,15 +37,18 @@ number_of SubflowBuffer = 17
 abbrev pub frame_with : FrameHeader → List Bool → paper.Frame
 frame_with h core = paper.frame_by h.frame_type h.quality h.indication h.request core
 
--- the frame and the count, or the refusal's number; the core is where the call put or found it, by the frame's type
-abbrev pub reading_of : (ℕ → List Bool) → Reading → Outcome (paper.Frame × ℕ)
-reading_of core (reading.Frame h n) = ok (frame_with h (core h.frame_type), n)
-reading_of core (reading.Refused e) = refused (number_of e)
+-- what a call answers: what its value says, or the refusal's number
+abbrev pub outcome_of : {A B : Type 0} → (A → B) → Result A Refusal → Outcome B
+outcome_of says (Ok x) = ok (says x)
+outcome_of says (Err e) = refused (number_of e)
 
-abbrev pub found_of : FormatFound → Outcome paper.Format
-found_of (Is f) = ok (format_of f)
-found_of Unknown = refused 11
+abbrev pub found_of : Result Format Refusal → Outcome paper.Format
+found_of = outcome_of format_of
 
-abbrev pub built_of : Built → Outcome ℕ
-built_of (built.Octets n) = ok n
-built_of (built.Refused e) = refused (number_of e)
+-- the frame and the count; the core is where the call put or found it, by the frame's type
+abbrev pub reading_of : (ℕ → List Bool) → Result (FrameHeader × ℕ) Refusal → Outcome (paper.Frame × ℕ)
+reading_of core = outcome_of (λ r. (frame_with r.0 (core r.0.frame_type), r.1))
+
+-- how many octets were written
+abbrev pub built_of : Result ℕ Refusal → Outcome ℕ
+built_of = outcome_of (λ n. n)

@@ -1,12 +1,12 @@
-// What a frame is to the code: formats, refusals, a frame's fields, the answers, and the table of types. The crates that read, build and
-// classify frames stand above it; its functions are `pub` for them. What an answer means is said in specs/Answers.antt, and what a
-// frame is in `definitions`.
+// What a frame is to the code: formats, refusals, a frame's fields, and the table of types. The crates that read, build and classify
+// frames stand above it; its functions are `pub` for them. What an answer means is said in specs/Answers.antt, and what a frame is in
+// `definitions`.
 #![tactic(auto)]
 
 pub mod fields;
 pub mod table;
 
-ghost use Rattle.std.specs.Prelude.{◌≡◌};
+ghost use Rattle.std.specs.Prelude.{◌≡◌, cond, leb};
 ghost use Rattle.definitions.specs.Reading.{format_numbered};
 ghost use Rattle.frame.specs.Answers.{number_of, found_of};
 
@@ -22,40 +22,33 @@ pub const SID_MODE_AT: usize = 36;
 pub const IF1_CORE_AT: usize = 3;
 
 // Document 01's formats 1, 2 and 3.
-#[derive(Clone, Copy)]
+#[derive(Clone, Copy, Debug, PartialEq, Eq)]
 pub enum Format {
     If1,
     If2,
     Storage,
 }
 
-// The format that a number names, if it is 1, 2 or 3.
-#[derive(Clone, Copy)]
-pub enum FormatFound {
-    Is(Format),
-    Unknown,
-}
-
-// Why a call refuses, in the order of document 01's numbers 1 to 17.
-#[derive(Clone, Copy)]
+// Why a call refuses, by document 01's numbers.
+#[derive(Clone, Copy, Debug, PartialEq, Eq)]
 pub enum Refusal {
-    NoOctets,
-    ReservedType,
-    TooShort,
-    OctetsAfter,
-    SpareBit,
-    FieldRange,
-    CrcMismatch,
-    StorageHeader,
-    TooLong,
-    OutputShort,
-    ArgumentRange,
-    NoCodecOrder,
-    FqcReserved,
-    NoSet,
-    SetPresent,
-    NotInSet,
-    SubflowBuffer,
+    NoOctets = 1,
+    ReservedType = 2,
+    TooShort = 3,
+    OctetsAfter = 4,
+    SpareBit = 5,
+    FieldRange = 6,
+    CrcMismatch = 7,
+    StorageHeader = 8,
+    TooLong = 9,
+    OutputShort = 10,
+    ArgumentRange = 11,
+    NoCodecOrder = 12,
+    FqcReserved = 13,
+    NoSet = 14,
+    SetPresent = 15,
+    NotInSet = 16,
+    SubflowBuffer = 17,
 }
 
 // A frame's fields but for the core.
@@ -67,54 +60,32 @@ pub struct FrameHeader {
     pub request: u8,
 }
 
-// A frame with a count of octets, or the refusal. The count is that of the frame's octets where more may follow, and that of the
-// packed core in the buffer where one frame is read.
-#[derive(Clone, Copy)]
-pub enum Reading {
-    Frame(FrameHeader, usize),
-    Refused(Refusal),
-}
+impl TryFrom<u64> for Format {
+    type Error = Refusal;
 
-// How many octets were written, or the refusal.
-#[derive(Clone, Copy)]
-pub enum Built {
-    Octets(usize),
-    Refused(Refusal),
-}
+    ghost try_from_gives = { λ n r. found_of r ≡ format_numbered n };
 
-// The format of a number.
-pub fn format_numbered(n: u64) -> FormatFound
-    ensures { found_of result ≡ format_numbered n }
-{
-    match n {
-        1 => FormatFound::Is(Format::If1),
-        2 => FormatFound::Is(Format::If2),
-        3 => FormatFound::Is(Format::Storage),
-        _ => FormatFound::Unknown,
+    fn try_from(n: u64) -> Result<Format, Refusal> {
+        match n {
+            1 => Ok(Format::If1),
+            2 => Ok(Format::If2),
+            3 => Ok(Format::Storage),
+            _ => Err(Refusal::ArgumentRange),
+        }
     }
 }
 
-// Document 01's number of a refusal.
-pub fn refusal_number(e: Refusal) -> u64
-    ensures { result ≡ number_of e }
-{
-    match e {
-        Refusal::NoOctets => 1,
-        Refusal::ReservedType => 2,
-        Refusal::TooShort => 3,
-        Refusal::OctetsAfter => 4,
-        Refusal::SpareBit => 5,
-        Refusal::FieldRange => 6,
-        Refusal::CrcMismatch => 7,
-        Refusal::StorageHeader => 8,
-        Refusal::TooLong => 9,
-        Refusal::OutputShort => 10,
-        Refusal::ArgumentRange => 11,
-        Refusal::NoCodecOrder => 12,
-        Refusal::FqcReserved => 13,
-        Refusal::NoSet => 14,
-        Refusal::SetPresent => 15,
-        Refusal::NotInSet => 16,
-        Refusal::SubflowBuffer => 17,
+impl From<Refusal> for u64 {
+    ghost from_gives = { λ e n. n ≡ number_of e };
+
+    fn from(e: Refusal) -> u64 {
+        e as u64
     }
+}
+
+// The mode indication of a frame that is made: its type, 0 for a SID frame.
+pub fn indication_of(t: u8) -> u8
+    ensures { result ≡ cond (leb t 8) t 0 }
+{
+    if u64::from(t) <= HIGHEST_MODE { t } else { 0 }
 }
