@@ -8,12 +8,14 @@ use native.Mathlib.Nat.{one-mul, div-one, add_comm, mul_assoc, add-mul-div_right
 use native.Mathlib.Omega.{arith}
 use lib.ListN.{length, get_or, set, take, drop, replicate, length-drop, drop_of_length-le, take-append-drop}
 use lib.Seq.{drop-drop}
+use borrow.Rule.Slice.PartMut.{put_mid}
+use Rattle.std.specs.List.{between}
 use lib.Dec.{lit≤, lit<, eqb}
 use native.Mathlib.Numerals.{add-one}
 use lib.Bits.{bit_and, bit_or, and_mask, and_block, or_block, or_zero_r, or_shifted, or_shifted_r, and_le_l, or_lt}
 use lib.Pow.{pow_pos, pow_mono, shl_exact, shl_lt, split, ones_lt, ones_split, mod-mod-pow, high, low, pow-add, shr_lt, shl-shr, mod-pow-add}
 use Rattle.bits.specs.Bits.{octets_for, Octets, bits, num, odd, copied, digits}
-use Rattle.bits.proofs.BitLaws.{octet_field, digits-zero, window_field, bits-get_or, bits_put, copied_more, length-bits, length_digits, digits-num-le, digits-join, digits_mod, take-digits, drop-digits}
+use Rattle.bits.proofs.BitLaws.{octet_field, digits-zero, window_field, bits-get_or, bits_put, copied_more, length-bits, bits-take, bits-drop, bits-append, length_digits, digits-num-le, digits-join, digits_mod, take-digits, drop-digits}
 
 -- `1 << k` at u32
 pub one_shl : (k : ℕ) → k ≤ 8 → (1 * 2 ^ k) % 2 ^ 32 ≡ 2 ^ k
@@ -159,6 +161,19 @@ octet_turn src d₀ dst from j m t y ht hs hd hl ey inv =
     (bits_put (j + t) 0 8 dst y (digits 8 y) (omega arith) (le_refl 8) (rw (none, append-nil))
     ∙ ap₂ (λ (p : ℕ) (l : List Bool). take p (bits dst) ++ (l ++ drop (p + 8) (bits dst))) at new)
     ∙ ap (copied (bits d₀) (8 * j) (drop from (bits src))) more
+
+-- m octets of the source in place of as many of the target
+pub octets_put : (src dst x : List ℕ) (i j m : ℕ) → x ≡ between i (i + m) src
+    → bits (put_mid j (j + m - j) dst x) ≡ copied (bits dst) (8 * j) (drop (8 * i) (bits src)) (8 * m)
+octets_put src dst x i j m e =
+    let here : bits x ≡ take (8 * m) (drop (8 * i) (bits src)) =
+    ap bits e ∙ bits-take (i + m - i) (drop i src)
+    ∙ ap₂ (λ (k : ℕ) (l : List Bool). take k l) (let q : 8 * (i + m - i) ≡ 8 * m = omega arith in q) (bits-drop i src) in
+    let behind : bits (drop (j + m - j) (drop j dst)) ≡ drop (8 * j + 8 * m) (bits dst) =
+    ap bits (drop-drop (j + m - j) j dst) ∙ bits-drop (j + (j + m - j)) dst
+    ∙ ap (λ (k : ℕ). drop k (bits dst)) (let q : 8 * (j + (j + m - j)) ≡ 8 * j + 8 * m = omega arith in q) in
+    bits-append (take j dst) (x ++ drop (j + m - j) (drop j dst))
+    ∙ ap₂ (λ (l r : List Bool). l ++ r) (bits-take j dst) (bits-append x (drop (j + m - j) (drop j dst)) ∙ ap₂ (λ (l r : List Bool). l ++ r) here behind)
 
 -- `(hi << a) | (lo >> b)` at u8, with a + b = 8
 pub shifted_is : (a b hi lo : ℕ) → b + a ≡ 8 → lo < 2 ^ 8

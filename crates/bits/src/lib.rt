@@ -23,11 +23,8 @@ pub fn field_at(s: &[u8], from: usize, k: usize) -> u8
 {
     let i = from >> 3;
     let a = from & 7;
-    let hi = s[i] as u32;
-    let mut lo: u32 = 0;
-    if i + 1 < s.len() {
-        lo = s[i + 1] as u32;
-    }
+    let hi = u32::from(s[i]);
+    let lo = u32::from(s.get(i + 1).copied().unwrap_or(0));
     let w = (hi << 8) | lo;
     let m = (1u32 << k) - 1;
     ((w >> (16 - a - k)) & m) as u8
@@ -72,11 +69,7 @@ pub fn each_whole(src: &[u8], i: usize, m: usize, dst: &mut [u8], j: usize)
     requires { (i + m ≤ length src.now) × (j + m ≤ length dst.old) }
     ensures { bits dst.new ≡ copied (bits dst.old) (8 * j) (drop (8 * i) (bits src.now)) (8 * m) }
 {
-    let mut t: usize = 0;
-    while t < m {
-        dst[j + t] = src[i + t];
-        t += 1;
-    }
+    dst[j..j + m].copy_from_slice(&src[i..i + m]);
 }
 
 // Copies `m` octets of bits from bit `a` of octet `i` of `src`, where `a` is not 0, to octet `j` of `dst`, one by one.
@@ -84,12 +77,10 @@ pub fn each_shifted(src: &[u8], i: usize, a: usize, m: usize, dst: &mut [u8], j:
     requires { (0 < a) × (a < 8) × (i + m < length src.now) × (j + m ≤ length dst.old) }
     ensures { bits dst.new ≡ copied (bits dst.old) (8 * j) (drop (8 * i + a) (bits src.now)) (8 * m) }
 {
-    let mut t: usize = 0;
-    while t < m {
+    for t in 0..m {
         let hi = src[i + t];
         let lo = src[i + t + 1];
         dst[j + t] = (hi << a) | (lo >> (8 - a));
-        t += 1;
     }
 }
 

@@ -13,7 +13,7 @@ use native.Mathlib.Numerals.{add-one}
 use Rattle.bits.proofs.each_shifted.Goals as goal
 
 pub loop-t-init : goal.loop-t-init
-loop-t-init c = (search rules, refl, sym (copied-zero (bits c.args.dst.now) (8 * c.args.j) (drop (8 * c.args.i + c.args.a) (bits c.args.src.now))))
+loop-t-init c = sym (copied-zero (bits c.args.dst.now) (8 * c.args.j) (drop (8 * c.args.i + c.args.a) (bits c.args.src.now)))
 
 -- what a turn stores
 octet_is : (s : List ℕ) (i a t : ℕ) → Octets s → a < 8 → i + t < length s
@@ -28,18 +28,7 @@ octet_is s i a t o ha h =
 pub loop-t-preserved : goal.loop-t-preserved
 loop-t-preserved c =
     let a = c.args in
-    let l = c.loop-t in (
-      omega arith,
-      length-set l.dst _ _ ∙ l.invariant.1,
-      octet_turn a.src.now a.dst.now l.dst (8 * a.i + a.a) a.j a.m l.t _ c.loop-t-test.true (omega arith) c.requires.3 l.invariant.1
-          (octet_is a.src.now a.i a.a l.t (λ k. (c.type_inv.src k).fits) c.requires.1 (omega arith)) l.invariant.2,
-    )
+    let l = c.loop-t in
+    octet_turn a.src.now a.dst.now l.dst (8 * a.i + a.a) a.j a.m l.t _ (omega arith) (omega arith) c.requires.3 l.auto.dst
+    (octet_is a.src.now a.i a.a l.t (λ k. (c.type_inv.src k).fits) c.requires.1 (omega arith)) l.invariant
 
-pub shape_of-dst : goal.shape_of-dst
-shape_of-dst c = c.loop-t.invariant.1
-
-pub returns : goal.returns
-returns c =
-    let a = c.args in
-    let e : 8 * c.loop-t.t ≡ 8 * c.args.m = omega arith in
-    c.loop-t.invariant.2 ∙ ap (copied (bits a.dst.now) (8 * a.j) (drop (8 * a.i + a.a) (bits a.src.now))) e

@@ -1,5 +1,6 @@
 -- `bits::put_run` meets its contract: the run is copied up to a border, then by whole octets, and its last octet is written filled up; a run
 -- that ends before the first border is copied, and then filled up. Assumes nothing.
+use borrow.Author.Rules.{rules}
 use native.Mathlib.Omega.{arith}
 use Prim.Native.Nat.{ℕ, ◌+◌, ◌-◌, ◌*◌, ◌/◌, ◌%◌, ◌^◌}
 use lib.Bits.{bit_and}
@@ -22,7 +23,7 @@ pub returns-then-n-gap : goal.returns-then-n-gap
 returns-then-n-gap c =
     let a = c.args in
     put_is a.src.now a.dst.now c.copy_part.new.dst c.clear_to_border.new.dst a.from a.n a.at
-    (λ i. (c.slice_known-1.given i).fits) (λ i. (c.type_inv.dst i).fits) c.requires.0 c.requires.1
+    (λ i. search rules) (λ i. search rules) c.requires.0 c.requires.1
     c.copy_part.ensures c.clear_to_border.ensures
 
 pub copy_part-requires-2 : goal.copy_part-requires-2
@@ -51,6 +52,6 @@ returns c =
     let d₁ = c.copy_part-2.new.dst in
     let d₂ = c.copy_octets.new.dst in
     put_last_is a.src.now a.dst.now d₂ c.put_last.new.dst a.from a.n a.at (g + 8 * m) (bit_and (a.n - g) 7) ((a.at + g) / 8 + m) (a.from + g + m * 8 % 2 ^ 64)
-    (λ i. (c.slice_known-1.given i).fits) (λ i. (c.type_inv.dst i).fits) c.requires.0 c.requires.1 (omega arith) (omega arith) (omega arith)
+    (λ i. search rules) (λ i. search rules) c.requires.0 c.requires.1 (omega arith) (omega arith) (omega arith)
     (two a.src.now a.dst.now d₁ d₂ a.from a.at a.n g m ((a.at + g) / 8) c.requires.0 c.requires.1 (omega arith) (omega arith) c.copy_part-2.ensures c.copy_octets.ensures)
     c.put_last.ensures
