@@ -1,22 +1,21 @@
 -- What Down's answer says: document 01's number and values for each case; and what it promises of the state and of the three buffers.
-use Rattle.std.specs.Prelude.{◌≡◌, List, ℕ}
+use Rattle.std.specs.Prelude.{◌≡◌, List, ℕ, Result}
 use Rattle.definitions.specs.Outcome.{Outcome, refused, ok}
 use Rattle.definitions.specs.Reading.{overwritten}
-use Rattle.frame.specs.Answers.{number_of}
+use Rattle.frame.specs.declared.Refusal.{Refusal}
+use Rattle.frame.specs.Answers.{outcome_of}
 use Rattle.links.specs.declared.Link.{Link}
 use Rattle.links.specs.Calls as paper
+use Rattle.downlink_flows.specs.declared.Subflows.{Subflows}
 use Rattle.downlink_flows.specs.Answers.{Numbers, numbers, subflows_of}
-use Rattle.downlink.specs.declared.Downlinked.{Downlinked}
-use Rattle.downlink.specs.declared.Downlinked.TheVariants.{Split, Refused}
 use Rattle.downlink.specs.declared.DownAnswer.{DownAnswer}
 
 abbrev pub shown : Outcome paper.Down → Outcome Numbers
 shown (refused n) = refused n
 shown (ok d) = ok (numbers d)
 
-abbrev pub down_of : Downlinked → Outcome Numbers
-down_of (Split s) = ok (subflows_of s)
-down_of (Refused e) = refused (number_of e)
+abbrev pub down_of : Result Subflows Refusal → Outcome Numbers
+down_of = outcome_of subflows_of
 
 -- a sub-flow's buffer after the call; a refused call leaves it
 abbrev pub flow_after : (paper.Down → List ℕ) → Outcome paper.Down → List ℕ → List ℕ
@@ -24,7 +23,7 @@ flow_after flow (refused n) d = d
 flow_after flow (ok y) d = overwritten (flow y) d
 
 -- the answer, and the buffers, a₀, b₀ and c₀ before the call and a, b and c after it
-pub record SplitInto (o : Outcome paper.Down) (a₀ a b₀ b c₀ c : List ℕ) (r : Downlinked) : Type 0 where
+pub record SplitInto (o : Outcome paper.Down) (a₀ a b₀ b c₀ c : List ℕ) (r : Result Subflows Refusal) : Type 0 where
   pub answer : down_of r ≡ shown o
   pub buffer1 : a ≡ flow_after (λ y. y.flow1) o a₀
   pub buffer2 : b ≡ flow_after (λ y. y.flow2) o b₀

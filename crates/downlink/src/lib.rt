@@ -9,23 +9,17 @@ ghost use Rattle.links.specs.declared.Link.{Link};
 ghost use Rattle.links.specs.Calls.{link_by, down_frame, down_call};
 ghost use Rattle.downlink.specs.Answers.{down_of, next_link, SplitInto, DownInto};
 
-use combinations::{Found, lookup_type};
-use downlink_flows::{Forward, Subflows, is_roomy, put_subflows, subflows_of};
+use combinations::lookup_type;
+use downlink_flows::{Subflows, is_roomy, put_subflows, subflows_of};
 use frame::table::header_bits;
-use frame::{Format, FrameHeader, Reading, Refusal};
+use frame::{Format, FrameHeader, Refusal};
 use frame_reader::read_if1;
 use links::Link;
-
-#[derive(Clone, Copy)]
-pub enum Downlinked {
-    Split(Subflows),
-    Refused(Refusal),
-}
 
 // The answer, and the state after the call.
 #[derive(Clone, Copy)]
 pub struct DownAnswer {
-    pub answer: Downlinked,
+    pub answer: Result<Subflows, Refusal>,
     pub link: Link,
 }
 
@@ -37,26 +31,23 @@ fn split_read(
     s1: &mut [u8],
     s2: &mut [u8],
     s3: &mut [u8],
-) -> Downlinked
+) -> Result<Subflows, Refusal>
     requires { octets if1 h.frame_type ≤ length frame.now }
     ensures { SplitInto (down_frame link (frame_with h (core_in if1 h.frame_type (bits frame.now))) (length s1.old) (length s2.old) (length s3.old)) s1.old s1.new s2.old s2.new s3.old s3.new result }
 {
-    let set = link.set;
-    let Found::Is(c) = lookup_type(set, h.frame_type) else {
-        return Downlinked::Refused(Refusal::NotInSet);
-    };
+    let c = lookup_type(&link.set, h.frame_type).ok_or(Refusal::NotInSet)?;
     if !is_roomy(c, s1.len(), s2.len(), s3.len()) {
-        return Downlinked::Refused(Refusal::OutputShort);
+        return Err(Refusal::OutputShort);
     }
     put_subflows(
         c,
         frame,
-        header_bits(Format::If1, h.frame_type as usize),
+        header_bits(Format::If1, usize::from(h.frame_type)),
         s1,
         s2,
         s3,
     );
-    Downlinked::Split(subflows_of(h, link.forwarded, c))
+    Ok(subflows_of(h, link.forwarded, c))
 }
 
 // Splits an IF1 frame into the sub-flows of its type's combination. `pub` for level three, which adds the state after the call itself:
@@ -67,29 +58,25 @@ pub fn split_frame(
     s1: &mut [u8],
     s2: &mut [u8],
     s3: &mut [u8],
-) -> Downlinked
+) -> Result<Subflows, Refusal>
     ensures { SplitInto (down_call link frame.now (length s1.old) (length s2.old) (length s3.old)) s1.old s1.new s2.old s2.new s3.old s3.new result }
 {
     if link.set.count == 0 {
-        return Downlinked::Refused(Refusal::NoSet);
+        return Err(Refusal::NoSet);
     }
-    match read_if1(frame) {
-        Reading::Frame(h, _) => split_read(link, h, frame, s1, s2, s3),
-        Reading::Refused(e) => Downlinked::Refused(e),
-    }
+    let (h, _) = read_if1(frame)?;
+    split_read(link, h, frame, s1, s2, s3)
 }
 
 // The last request forwarded after an answer. `pub` for level three.
-pub fn forwarded_after(last: u16, d: Downlinked) -> u16
+pub fn forwarded_after(last: u16, d: Result<Subflows, Refusal>) -> u16
     ensures { (l : Link) → l.forwarded ≡ last → link_by l.set l.request result ≡ next_link (down_of d) l }
 {
-    let Downlinked::Split(s) = d else {
-        return last;
-    };
-    let f = s.forward;
-    match f {
-        Forward::Nothing => last,
-        Forward::Request(r) => r as u16,
+    match d {
+        Ok(Subflows {
+            forward: Some(r), ..
+        }) => u16::from(r),
+        _ => last,
     }
 }
 
@@ -98,11 +85,9 @@ pub fn down(link: Link, frame: &[u8], s1: &mut [u8], s2: &mut [u8], s3: &mut [u8
     ensures { DownInto (down_call link frame.now (length s1.old) (length s2.old) (length s3.old)) link s1.old s1.new s2.old s2.new s3.old s3.new result }
 {
     let answer = split_frame(link, frame, s1, s2, s3);
-    let set = link.set;
-    let next = Link {
-        set,
-        request: link.request,
-        forwarded: forwarded_after(link.forwarded, answer),
-    };
-    DownAnswer { answer, link: next }
+    let forwarded = forwarded_after(link.forwarded, answer);
+    DownAnswer {
+        answer,
+        link: Link { forwarded, ..link },
+    }
 }

@@ -1,10 +1,8 @@
 -- What is said of a frame: document 01's values; and what is put into the three buffers.
-use Rattle.std.specs.Prelude.{◌≡◌, Bool, List, ◌++◌, ℕ, ◌+◌, length, take, drop}
+use Rattle.std.specs.Prelude.{◌≡◌, Bool, List, ◌++◌, ℕ, ◌+◌, length, take, drop, Option, Some, None}
 use Rattle.bits.specs.Bits.{pack, octets_for}
 use Rattle.links.specs.declared.Combination.{Combination}
 use Rattle.links.specs.Calls as paper
-use Rattle.downlink_flows.specs.declared.Forward.{Forward}
-use Rattle.downlink_flows.specs.declared.Forward.TheVariants.{Nothing, Request}
 use Rattle.downlink_flows.specs.declared.Subflows.{Subflows}
 
 -- what is answered in numbers: the sub-flows by their octets
@@ -26,9 +24,9 @@ numbers d = record {
   forward = d.forward;
 }
 
-abbrev pub forward_of : Forward → paper.Forward
-forward_of Nothing = paper.nothing
-forward_of (Request r) = paper.request r
+abbrev pub forward_of : Option ℕ → paper.Forward
+forward_of None = paper.nothing
+forward_of (Some r) = paper.request r
 
 abbrev pub subflows_of : Subflows → Numbers
 subflows_of s = record {

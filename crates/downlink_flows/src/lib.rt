@@ -9,20 +9,10 @@ ghost use Rattle.links.specs.declared.Link.{Link};
 ghost use Rattle.links.specs.Calls.{nothing, request, forwards, split, roomy};
 ghost use Rattle.downlink_flows.specs.Answers.{forward_of, subflows_of, numbers, SubflowsPut};
 
-use frame::FrameHeader;
+use frame::{FrameHeader, SID};
 use links::Combination;
 
-// The last type that carries a request.
-const SID: u8 = frame::SID as u8;
-
-// The request that is forwarded, if one is.
-#[derive(Clone, Copy)]
-pub enum Forward {
-    Nothing,
-    Request(u8),
-}
-
-// What Down says of a frame: FQC, RFCI, the octets of each sub-flow, and what is forwarded.
+// What Down says of a frame: FQC, RFCI, the octets of each sub-flow, and the request that is forwarded, if one is.
 #[derive(Clone, Copy)]
 pub struct Subflows {
     pub fqc: u8,
@@ -30,27 +20,21 @@ pub struct Subflows {
     pub octets1: usize,
     pub octets2: usize,
     pub octets3: usize,
-    pub forward: Forward,
+    pub forward: Option<u8>,
 }
 
 // The octets of a sub-flow.
 fn octets_for(size: u16) -> usize
     ensures { result ≡ octets_for size }
 {
-    (size as usize + 7) / 8
+    usize::from(size).div_ceil(8)
 }
 
 // The buffers have room.
 pub fn is_roomy(c: Combination, n1: usize, n2: usize, n3: usize) -> bool
     ensures { result ≡ roomy c n1 n2 n3 }
 {
-    if n1 < octets_for(c.size1) {
-        return false;
-    }
-    if n2 < octets_for(c.size2) {
-        return false;
-    }
-    octets_for(c.size3) <= n3
+    octets_for(c.size1) <= n1 && octets_for(c.size2) <= n2 && octets_for(c.size3) <= n3
 }
 
 // FQC of a quality: 0 good, 1 bad.
@@ -58,16 +42,6 @@ fn fqc_of(quality: u8) -> u8
     ensures { result ≡ cond (eqb quality 1) 0 1 }
 {
     if quality == 1 { 0 } else { 1 }
-}
-
-// Whether a frame's request is forwarded.
-fn is_forwarded(h: FrameHeader, last: u16) -> bool
-    ensures { (core : List Bool) → result ≡ forwards last (frame_with h core) }
-{
-    if SID < h.frame_type {
-        return false;
-    }
-    h.request as u16 != last
 }
 
 // Puts the `n` bits of `frame` from index `from` on into the front of a sub-flow's buffer.
@@ -93,39 +67,32 @@ pub fn put_subflows(
     requires { (from ≤ 24) × (from + c.size1 + c.size2 + c.size3 ≤ 8 * length frame.now) × (roomy c (length s1.old) (length s2.old) (length s3.old) ≡ true) }
     ensures { SubflowsPut c (drop from (bits frame.now)) s1.old s1.new s2.old s2.new s3.old s3.new }
 {
-    let n1 = c.size1 as usize;
-    let n2 = c.size2 as usize;
-    let n3 = c.size3 as usize;
+    let n1 = usize::from(c.size1);
+    let n2 = usize::from(c.size2);
+    let n3 = usize::from(c.size3);
     put_subflow(frame, from, n1, s1);
     put_subflow(frame, from + n1, n2, s2);
     put_subflow(frame, from + n1 + n2, n3, s3);
 }
 
-// The request that is forwarded.
-fn forward_of(h: FrameHeader, last: u16) -> Forward
+// The request that is forwarded, if one is.
+fn forward_of(h: FrameHeader, last: u16) -> Option<u8>
     ensures { (core : List Bool) → forward_of result ≡ cond (forwards last (frame_with h core)) (request h.request) nothing }
 {
-    if is_forwarded(h, last) {
-        return Forward::Request(h.request);
-    }
-    Forward::Nothing
+    let is_forwarded = u64::from(h.frame_type) <= SID && u16::from(h.request) != last;
+    is_forwarded.then_some(h.request)
 }
 
 // What is said of a frame with the combination of its type.
 pub fn subflows_of(h: FrameHeader, last: u16, c: Combination) -> Subflows
     ensures { (l : Link) (core : List Bool) → l.forwarded ≡ last → length core ≡ c.size1 + c.size2 + c.size3 → subflows_of result ≡ numbers (split l c (frame_with h core)) }
 {
-    let fqc = fqc_of(h.quality);
-    let octets1 = octets_for(c.size1);
-    let octets2 = octets_for(c.size2);
-    let octets3 = octets_for(c.size3);
-    let forward = forward_of(h, last);
     Subflows {
-        fqc,
+        fqc: fqc_of(h.quality),
         rfci: c.rfci,
-        octets1,
-        octets2,
-        octets3,
-        forward,
+        octets1: octets_for(c.size1),
+        octets2: octets_for(c.size2),
+        octets3: octets_for(c.size3),
+        forward: forward_of(h, last),
     }
 }

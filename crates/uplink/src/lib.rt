@@ -1,7 +1,7 @@
 // Up: three sub-flows joined into an IF1 frame. `up` is an entry; `join_frame` is `pub` for level three.
 #![tactic(auto)]
 
-ghost use Rattle.std.specs.Prelude.{◌≡◌, Bool, true, cond, List, [], ◌++◌, ℕ, ◌+◌, ◌*◌, ◌^◌, ◌<◌, ◌≤◌, leb, length, take, drop};
+ghost use Rattle.std.specs.Prelude.{◌≡◌, Bool, true, List, [], ◌++◌, ℕ, ◌+◌, ◌*◌, ◌^◌, ◌<◌, ◌≤◌, length, take, drop};
 ghost use Rattle.bits.specs.Bits.{bits, pack, octets_for};
 ghost use Rattle.definitions.specs.Frames.{frame_by};
 ghost use Rattle.links.specs.Sets.{combination_good};
@@ -12,14 +12,11 @@ ghost use Rattle.uplink.specs.Answers.{UpInto};
 
 use combinations::NO_DATA;
 use frame::table::core_octets;
-use frame::{Built, Format, FrameHeader, IF1_CORE_AT, Refusal};
-use frame_builder::{build_if1, core_fields_good};
+use frame::{Format, FrameHeader, IF1_CORE_AT, Refusal, indication_of};
+use frame_builder::{build, core_fields_good};
 use frame_writer::write_modes;
 use links::{Combination, Link};
-use uplink_judge::{Judged, judge, quality_of};
-
-// The paper's number at the width that is asked here.
-const HIGHEST_MODE: u8 = frame::HIGHEST_MODE as u8;
+use uplink_judge::{Judged, SubflowOctets, judge, quality_of};
 
 // The octets of the longest core.
 const CORE_MOST: usize = 60;
@@ -27,7 +24,7 @@ const CORE_MOST: usize = 60;
 // The answer, and the state, which Up leaves.
 #[derive(Clone, Copy)]
 pub struct UpAnswer {
-    pub answer: Built,
+    pub answer: Result<usize, Refusal>,
     pub link: Link,
 }
 
@@ -43,23 +40,16 @@ fn append(s: &[u8], n: usize, core: &mut [u8], at: usize)
 }
 
 // Puts the sub-flows one behind the other.
-fn join(c: Combination, s1: &[u8], s2: &[u8], s3: &[u8], core: &mut [u8])
-    requires { Joinable c s1.now s2.now s3.now core.old }
-    ensures { core.new ≡ pack (joined c s1.now s2.now s3.now) ++ drop (octets_for (c.size1 + c.size2 + c.size3)) core.old }
+fn join(c: Combination, s: SubflowOctets<'_>, core: &mut [u8])
+    requires { Joinable c s.s1.now s.s2.now s.s3.now core.old }
+    ensures { core.new ≡ pack (joined c s.entry.s1.now s.entry.s2.now s.entry.s3.now) ++ drop (octets_for (c.size1 + c.size2 + c.size3)) core.old }
 {
-    let n1 = c.size1 as usize;
-    let n2 = c.size2 as usize;
-    let n3 = c.size3 as usize;
-    append(s1, n1, core, 0);
-    append(s2, n2, core, n1);
-    append(s3, n3, core, n1 + n2);
-}
-
-// The indication of a frame by its type, as in conversion.
-fn indication_of(t: u8) -> u8
-    ensures { result ≡ cond (leb t 8) t 0 }
-{
-    if t <= HIGHEST_MODE { t } else { 0 }
+    let n1 = usize::from(c.size1);
+    let n2 = usize::from(c.size2);
+    let n3 = usize::from(c.size3);
+    append(s.s1, n1, core, 0);
+    append(s.s2, n2, core, n1);
+    append(s.s3, n3, core, n1 + n2);
 }
 
 // Makes the frame of types 0 to 9 of sub-flows that are right: joined, judged and written.
@@ -67,25 +57,23 @@ fn build_joined(
     request: u16,
     fqc: u64,
     c: Combination,
-    s1: &[u8],
-    s2: &[u8],
-    s3: &[u8],
+    s: SubflowOctets<'_>,
     out: &mut [u8],
-) -> Built
-    requires { (combination_good c ≡ true) × (c.frame_type ≤ 9) × (subflows_good c s1.now s2.now s3.now ≡ true) }
-    ensures { IntoOutput (written (up_frame request fqc c s1.now s2.now s3.now) (length out.old)) out.old out.new result }
+) -> Result<usize, Refusal>
+    requires { (combination_good c ≡ true) × (c.frame_type ≤ 9) × (subflows_good c s.s1.now s.s2.now s.s3.now ≡ true) }
+    ensures { IntoOutput (written (up_frame request fqc c s.entry.s1.now s.entry.s2.now s.entry.s3.now) (length out.old)) out.old out.new result }
 {
     let mut core = [0u8; CORE_MOST];
-    join(c, s1, s2, s3, &mut core);
+    join(c, s, &mut core);
     let t = c.frame_type;
-    let m = core_octets(t as usize);
+    let m = core_octets(usize::from(t));
     let i = indication_of(t);
-    if !core_fields_good(Format::If1, t as u64, i as u64, request as u64, &core[..m]) {
-        return Built::Refused(Refusal::FieldRange);
+    if !core_fields_good(Format::If1, u64::from(t), u64::from(i), u64::from(request), &core[..m]) {
+        return Err(Refusal::FieldRange);
     }
     let n = IF1_CORE_AT + m;
     if out.len() < n {
-        return Built::Refused(Refusal::OutputShort);
+        return Err(Refusal::OutputShort);
     }
     let h = FrameHeader {
         frame_type: t,
@@ -94,15 +82,15 @@ fn build_joined(
         request: request as u8,
     };
     write_modes(h, &core, 0, out);
-    Built::Octets(n)
+    Ok(n)
 }
 
 // A frame of type 15, which has no core.
-fn build_empty(quality: u8, none: &[u8], out: &mut [u8]) -> Built
-    requires { (quality < 2) × (length none.now ≡ 0) }
+fn build_empty(quality: u8, out: &mut [u8]) -> Result<usize, Refusal>
+    requires { quality < 2 }
     ensures { IntoOutput (written (frame_by 15 quality 0 0 []) (length out.old)) out.old out.new result }
 {
-    build_if1(NO_DATA, quality as u64, 0, 0, none, out)
+    build(Format::If1, NO_DATA, u64::from(quality), 0, 0, &[], out)
 }
 
 // Makes an IF1 frame of three sub-flows, by FQC and RFCI. `pub` for level three, which has no use for the state handed on.
@@ -110,32 +98,21 @@ pub fn join_frame(
     link: Link,
     fqc: u64,
     rfci: u64,
-    s1: &[u8],
-    s2: &[u8],
-    s3: &[u8],
+    s: SubflowOctets<'_>,
     out: &mut [u8],
-) -> Built
-    ensures { IntoOutput (up_call link fqc rfci s1.now s2.now s3.now (length out.old)) out.old out.new result }
+) -> Result<usize, Refusal>
+    ensures { IntoOutput (up_call link fqc rfci s.entry.s1.now s.entry.s2.now s.entry.s3.now (length out.old)) out.old out.new result }
 {
-    match judge(link, fqc, rfci, s1, s2, s3) {
-        Judged::Core(c) => build_joined(link.request, fqc, c, s1, s2, s3, out),
-        Judged::Empty(quality) => build_empty(quality, &s1[..0], out),
-        Judged::Refused(e) => Built::Refused(e),
+    match judge(link, fqc, rfci, s)? {
+        Judged::Core(c) => build_joined(link.request, fqc, c, s, out),
+        Judged::Empty(quality) => build_empty(quality, out),
     }
 }
 
 // The same, with the state handed back. An entry.
-pub fn up(
-    link: Link,
-    fqc: u64,
-    rfci: u64,
-    s1: &[u8],
-    s2: &[u8],
-    s3: &[u8],
-    out: &mut [u8],
-) -> UpAnswer
-    ensures { UpInto (up_call link fqc rfci s1.now s2.now s3.now (length out.old)) link out.old out.new result }
+pub fn up(link: Link, fqc: u64, rfci: u64, s: SubflowOctets<'_>, out: &mut [u8]) -> UpAnswer
+    ensures { UpInto (up_call link fqc rfci s.entry.s1.now s.entry.s2.now s.entry.s3.now (length out.old)) link out.old out.new result }
 {
-    let answer = join_frame(link, fqc, rfci, s1, s2, s3, out);
+    let answer = join_frame(link, fqc, rfci, s, out);
     UpAnswer { answer, link }
 }

@@ -1,16 +1,15 @@
 -- What Up judges before it writes, and what it is then to write.
-use Rattle.std.specs.Prelude.{◌≡◌, true, ◌&&◌, List, [], ℕ, ◌<◌, ◌≤◌, leb}
-use Rattle.definitions.specs.Outcome.{Outcome, refused, ok, unless}
-use Rattle.definitions.specs.Frames.{frame_by}
-use Rattle.frame.specs.Answers.{number_of}
+use Rattle.std.specs.Prelude.{◌≡◌, true, ◌&&◌, List, [], ℕ, ◌<◌, ◌≤◌, leb, Result, Ok}
+use Rattle.definitions.specs.Outcome.{Outcome, unless, and_then}
+use Rattle.definitions.specs.Frames.{Frame, frame_by}
+use Rattle.frame.specs.declared.Refusal.{Refusal}
+use Rattle.frame.specs.Answers.{outcome_of}
 use Rattle.links.specs.declared.Combination.{Combination}
 use Rattle.links.specs.declared.Link.{Link}
 use Rattle.links.specs.Sets.{combination_good, combinations, by_rfci, lookup}
 use Rattle.links.specs.Calls.{has_set, subflows_good, up_frame, written, up_call}
-use Rattle.uplink_judge.specs.declared.Picked.{Picked}
-use Rattle.uplink_judge.specs.declared.Picked.TheVariants as picked_as
 use Rattle.uplink_judge.specs.declared.Judged.{Judged}
-use Rattle.uplink_judge.specs.declared.Judged.TheVariants.{Core, Empty, Refused}
+use Rattle.uplink_judge.specs.declared.Judged.TheVariants.{Core, Empty}
 
 -- 11, 14, 13 and 16, the front of `up_call`
 unfoldable pub picked : Link → (fqc rfci : ℕ) → Outcome Combination
@@ -20,15 +19,17 @@ picked l fqc rfci =
     (unless 13 (leb fqc 2)
     (lookup by_rfci rfci (combinations l.set))))
 
-abbrev pub picked_of : Picked → Outcome Combination
-picked_of (picked_as.Is c) = ok c
-picked_of (picked_as.Refused e) = refused (number_of e)
+abbrev pub picked_of : Result Combination Refusal → Outcome Combination
+picked_of = outcome_of (λ c. c)
+
+-- the frame that is then to be written
+abbrev pub frame_of : (request fqc : ℕ) → (s₁ s₂ s₃ : List ℕ) → Judged → Frame
+frame_of r fqc s₁ s₂ s₃ (Core c) = up_frame r fqc c s₁ s₂ s₃
+frame_of r fqc s₁ s₂ s₃ (Empty q) = frame_by 15 q 0 0 []
 
 -- what is written into room octets
-abbrev pub writes : (request fqc : ℕ) → (s₁ s₂ s₃ : List ℕ) → Judged → (room : ℕ) → Outcome (List ℕ)
-writes r fqc s₁ s₂ s₃ (Core c) room = written (up_frame r fqc c s₁ s₂ s₃) room
-writes r fqc s₁ s₂ s₃ (Empty q) room = written (frame_by 15 q 0 0 []) room
-writes r fqc s₁ s₂ s₃ (Refused e) room = refused (number_of e)
+abbrev pub writes : (request fqc : ℕ) → (s₁ s₂ s₃ : List ℕ) → Result Judged Refusal → (room : ℕ) → Outcome (List ℕ)
+writes r fqc s₁ s₂ s₃ j room = and_then (outcome_of (frame_of r fqc s₁ s₂ s₃) j) (λ x. written x room)
 
 -- what is known of it
 pub record HasCore (c : Combination) (s₁ s₂ s₃ : List ℕ) : Type 0 where
@@ -36,7 +37,7 @@ pub record HasCore (c : Combination) (s₁ s₂ s₃ : List ℕ) : Type 0 where
   pub type : c.frame_type ≤ 9
   pub flows : subflows_good c s₁ s₂ s₃ ≡ true
 
-pub record Judges (l : Link) (fqc rfci : ℕ) (s₁ s₂ s₃ : List ℕ) (r : Judged) : Type 0 where
+pub record Judges (l : Link) (fqc rfci : ℕ) (s₁ s₂ s₃ : List ℕ) (r : Result Judged Refusal) : Type 0 where
   pub call : (room : ℕ) → writes l.request fqc s₁ s₂ s₃ r room ≡ up_call l fqc rfci s₁ s₂ s₃ room
-  pub core : (c : Combination) → r ≡ Core c → HasCore c s₁ s₂ s₃
-  pub quality : (q : ℕ) → r ≡ Empty q → q < 2
+  pub core : (c : Combination) → r ≡ Ok (Core c) → HasCore c s₁ s₂ s₃
+  pub quality : (q : ℕ) → r ≡ Ok (Empty q) → q < 2

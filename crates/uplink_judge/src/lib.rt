@@ -5,13 +5,10 @@ ghost use Rattle.std.specs.Prelude.{◌≡◌, cond, ◌<◌, eqb};
 ghost use Rattle.links.specs.Calls.{subflow_good, subflows_good};
 ghost use Rattle.uplink_judge.specs.Judging.{picked, picked_of, Judges};
 
-use combinations::{Found, HIGHEST_RFCI, lookup_rfci};
-use frame::Refusal;
+use combinations::{HIGHEST_RFCI, lookup_rfci};
+use frame::{Refusal, SID};
 use frame_builder::core_fill_clear;
 use links::{Combination, Link};
-
-// The last type that has a core.
-const SID: u8 = frame::SID as u8;
 
 // FQC: good, and bad, of which nothing is read. 3 is reserved.
 const GOOD: u64 = 0;
@@ -20,41 +17,33 @@ const BAD: u64 = 1;
 
 const RESERVED: u64 = 3;
 
+// The octets of the three sub-flows.
 #[derive(Clone, Copy)]
-enum Picked {
-    Is(Combination),
-    Refused(Refusal),
+pub struct SubflowOctets<'a> {
+    pub s1: &'a [u8],
+    pub s2: &'a [u8],
+    pub s3: &'a [u8],
 }
 
-// What is to be written: the frame of a combination that has a core, a frame of type 15 by its quality, or nothing.
+// What is to be written: the frame of a combination that has a core, or a frame of type 15 by its quality.
 #[derive(Clone, Copy)]
 pub enum Judged {
     Core(Combination),
     Empty(u8),
-    Refused(Refusal),
 }
 
 // A sub-flow has exactly its octets, and its filling is 0.
 fn subflow_good(s: &[u8], size: u16) -> bool
     ensures { result ≡ subflow_good size s.now }
 {
-    let n = size as usize;
-    if s.len() != (n + 7) / 8 {
-        return false;
-    }
-    core_fill_clear(s, n)
+    let n = usize::from(size);
+    s.len() == n.div_ceil(8) && core_fill_clear(s, n)
 }
 
-fn subflows_good(c: Combination, s1: &[u8], s2: &[u8], s3: &[u8]) -> bool
-    ensures { result ≡ subflows_good c s1.now s2.now s3.now }
+fn subflows_good(c: Combination, s: SubflowOctets<'_>) -> bool
+    ensures { result ≡ subflows_good c s.entry.s1.now s.entry.s2.now s.entry.s3.now }
 {
-    if !subflow_good(s1, c.size1) {
-        return false;
-    }
-    if !subflow_good(s2, c.size2) {
-        return false;
-    }
-    subflow_good(s3, c.size3)
+    subflow_good(s.s1, c.size1) && subflow_good(s.s2, c.size2) && subflow_good(s.s3, c.size3)
 }
 
 // The quality of an FQC of which the sub-flows are read.
@@ -65,45 +54,40 @@ pub fn quality_of(fqc: u64) -> u8
 }
 
 // The combination of an RFCI, or why Up is refused before a sub-flow is read.
-fn pick(link: Link, fqc: u64, rfci: u64) -> Picked
-    ensures { picked_of result ≡ picked link fqc rfci }
+fn pick(link: &Link, fqc: u64, rfci: u64) -> Result<Combination, Refusal>
+    ensures { picked_of result ≡ picked link.now fqc rfci }
 {
-    if RESERVED < fqc {
-        return Picked::Refused(Refusal::ArgumentRange);
-    }
-    if HIGHEST_RFCI < rfci {
-        return Picked::Refused(Refusal::ArgumentRange);
+    if RESERVED < fqc || HIGHEST_RFCI < rfci {
+        return Err(Refusal::ArgumentRange);
     }
     if link.set.count == 0 {
-        return Picked::Refused(Refusal::NoSet);
+        return Err(Refusal::NoSet);
     }
     if fqc == RESERVED {
-        return Picked::Refused(Refusal::FqcReserved);
+        return Err(Refusal::FqcReserved);
     }
-    let set = link.set;
-    let Found::Is(c) = lookup_rfci(set, rfci as u8) else {
-        return Picked::Refused(Refusal::NotInSet);
-    };
-    Picked::Is(c)
+    lookup_rfci(&link.set, rfci as u8).ok_or(Refusal::NotInSet)
 }
 
 // What Up is to write. Three functions and not one, since the compiler takes a call behind many tests for a rare one, and leaves it a call.
-pub fn judge(link: Link, fqc: u64, rfci: u64, s1: &[u8], s2: &[u8], s3: &[u8]) -> Judged
-    ensures { Judges link fqc rfci s1.now s2.now s3.now result }
+pub fn judge(
+    link: Link,
+    fqc: u64,
+    rfci: u64,
+    s: SubflowOctets<'_>,
+) -> Result<Judged, Refusal>
+    ensures { Judges link fqc rfci s.entry.s1.now s.entry.s2.now s.entry.s3.now result }
 {
-    match pick(link, fqc, rfci) {
-        Picked::Is(c) => {
-            if fqc == BAD {
-                return Judged::Empty(0);
-            }
-            if !subflows_good(c, s1, s2, s3) {
-                return Judged::Refused(Refusal::SubflowBuffer);
-            }
-            if SID < c.frame_type {
-                return Judged::Empty(quality_of(fqc));
-            }
-            Judged::Core(c)
-        }
-        Picked::Refused(e) => Judged::Refused(e),
+    let c = pick(&link, fqc, rfci)?;
+    if fqc == BAD {
+        return Ok(Judged::Empty(0));
+    }
+    if !subflows_good(c, s) {
+        return Err(Refusal::SubflowBuffer);
+    }
+    if u64::from(c.frame_type) <= SID {
+        Ok(Judged::Core(c))
+    } else {
+        Ok(Judged::Empty(quality_of(fqc)))
     }
 }
