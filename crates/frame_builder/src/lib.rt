@@ -1,16 +1,16 @@
-// Building one frame: judged first, then written. `build_if1`, `build_if2` and `build_storage` are entries.
+// Building one frame: judged first, then written. `build` is an entry.
 #![tactic(auto)]
 
 ghost use Rattle.std.specs.Prelude.{◌≡◌, ℕ, ◌-◌, ◌*◌, ◌<◌, length, drop};
 ghost use Rattle.bits.specs.Bits.{bits, octets_for, clear};
-ghost use Rattle.definitions.specs.Frames.{if1, if2, storage, frame_by, core_bits, fields_good};
+ghost use Rattle.definitions.specs.Frames.{frame_by, core_bits, fields_good};
 ghost use Rattle.definitions.specs.Reading.{buffer_core, build_check, build_frame};
 ghost use Rattle.frame.specs.Answers.{format_of, reading_of};
 ghost use Rattle.frame_builder.specs.Output.{IntoOutput};
 
 use frame::fields::fields_good;
 use frame::table::{core_bits, octets_of};
-use frame::{Built, Format, FrameHeader, Reading, Refusal, SID, SID_MODE_AT};
+use frame::{Format, FrameHeader, Refusal, SID, SID_MODE_AT};
 use frame_writer::write_frame;
 
 // The filling bits of a packed core are 0. `pub` for the crates of codec order and of Up.
@@ -37,31 +37,31 @@ pub fn core_fields_good(f: Format, t: u64, i: u64, r: u64, core: &[u8]) -> bool
 }
 
 // The tests of a building call, in document 01's order.
-fn judge(f: Format, t: u64, q: u64, i: u64, r: u64, core: &[u8], room: usize) -> Reading
+fn judge(f: Format, t: u64, q: u64, i: u64, r: u64, core: &[u8], room: usize) -> Result<(FrameHeader, usize), Refusal>
     ensures { reading_of (buffer_core core.now) result ≡ build_check (format_of f) t q i r core.now room }
 {
     if 15 < t {
-        return Reading::Refused(Refusal::ArgumentRange);
+        return Err(Refusal::ArgumentRange);
     }
     if 1 < q {
-        return Reading::Refused(Refusal::ArgumentRange);
+        return Err(Refusal::ArgumentRange);
     }
     let n = octets_of(f, t as usize);
     if n == 0 {
-        return Reading::Refused(Refusal::ReservedType);
+        return Err(Refusal::ReservedType);
     }
     let k = core_bits(t as usize);
     if core.len() != (k + 7) / 8 {
-        return Reading::Refused(Refusal::ArgumentRange);
+        return Err(Refusal::ArgumentRange);
     }
     if !core_fill_clear(core, k) {
-        return Reading::Refused(Refusal::SpareBit);
+        return Err(Refusal::SpareBit);
     }
     if !core_fields_good(f, t, i, r, core) {
-        return Reading::Refused(Refusal::FieldRange);
+        return Err(Refusal::FieldRange);
     }
     if room < n {
-        return Reading::Refused(Refusal::OutputShort);
+        return Err(Refusal::OutputShort);
     }
     let h = FrameHeader {
         frame_type: t as u8,
@@ -69,38 +69,14 @@ fn judge(f: Format, t: u64, q: u64, i: u64, r: u64, core: &[u8], room: usize) ->
         indication: i as u8,
         request: r as u8,
     };
-    Reading::Frame(h, n)
+    Ok((h, n))
 }
 
-fn build(f: Format, t: u64, q: u64, i: u64, r: u64, core: &[u8], out: &mut [u8]) -> Built
+// Builds a frame from its fields and packed core: how many octets it takes. An entry.
+pub fn build(f: Format, t: u64, q: u64, i: u64, r: u64, core: &[u8], out: &mut [u8]) -> Result<usize, Refusal>
     ensures { IntoOutput (build_frame (format_of f) t q i r core.now (length out.old)) out.old out.new result }
 {
-    match judge(f, t, q, i, r, core, out.len()) {
-        Reading::Frame(h, n) => {
-            write_frame(f, h, core, 0, out);
-            Built::Octets(n)
-        }
-        Reading::Refused(e) => Built::Refused(e),
-    }
-}
-
-// Builds an IF1 frame from its fields and packed core. An entry.
-pub fn build_if1(t: u64, q: u64, i: u64, r: u64, core: &[u8], out: &mut [u8]) -> Built
-    ensures { IntoOutput (build_frame if1 t q i r core.now (length out.old)) out.old out.new result }
-{
-    build(Format::If1, t, q, i, r, core, out)
-}
-
-// Builds an IF2 frame. An entry.
-pub fn build_if2(t: u64, q: u64, core: &[u8], out: &mut [u8]) -> Built
-    ensures { IntoOutput (build_frame if2 t q 0 0 core.now (length out.old)) out.old out.new result }
-{
-    build(Format::If2, t, q, 0, 0, core, out)
-}
-
-// Builds a frame of storage format. An entry.
-pub fn build_storage(t: u64, q: u64, core: &[u8], out: &mut [u8]) -> Built
-    ensures { IntoOutput (build_frame storage t q 0 0 core.now (length out.old)) out.old out.new result }
-{
-    build(Format::Storage, t, q, 0, 0, core, out)
+    let (h, n) = judge(f, t, q, i, r, core, out.len())?;
+    write_frame(f, h, core, 0, out);
+    Ok(n)
 }

@@ -1,14 +1,15 @@
 -- What a call that reads a frame promises of its answer and of the core's buffer, and what is found of a frame that is quickly read.
-use Rattle.std.specs.Prelude.{◌≡◌, true, false, List, ℕ, ◌≤◌, length, drop}
+use Rattle.std.specs.Prelude.{◌≡◌, true, false, List, ℕ, ◌≤◌, length, drop, Result}
 use Rattle.bits.specs.Bits.{num, bits}
 use Rattle.definitions.specs.Outcome.{Outcome}
 use Rattle.definitions.specs.Frames.{Format, Frame, known, octets, carries_modes, type_in, core_in, spare_clear}
 use Rattle.definitions.specs.Reading.{core_after, buffer_core}
 use Rattle.frame.specs.Answers.{reading_of}
-use Rattle.frame.specs.declared.Reading.{Reading}
+use Rattle.frame.specs.declared.Refusal.{Refusal}
+use Rattle.frame.specs.declared.FrameHeader.{FrameHeader}
 
 -- the buffer is d₀ before the call and d after it
-pub record IntoBuffer (o : Outcome (Frame × ℕ)) (d₀ d : List ℕ) (r : Reading) : Type 0 where
+pub record IntoBuffer (o : Outcome (Frame × ℕ)) (d₀ d : List ℕ) (r : Result (FrameHeader × ℕ) Refusal) : Type 0 where
   pub answer : reading_of (buffer_core d) r ≡ o
   pub buffer : d ≡ core_after o d₀
 

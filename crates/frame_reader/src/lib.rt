@@ -10,41 +10,42 @@ ghost use Rattle.frame_reader.specs.Buffer.{IntoBuffer, Plain};
 ghost use Rattle.frame.specs.Answers.{format_of, frame_with, reading_of};
 
 use frame::table::{carries_modes, core_bits, header_bits, octets_of};
-use frame::{Format, FormatFound, FrameHeader, Reading, Refusal, format_numbered};
+use frame::{Format, FrameHeader, Refusal};
 use frame_tests::{
     crc_good, ends, header_good, header_in, quality_in, sid_fine, spare_clear, type_in,
 };
 
 // The tests in document 01's order.
-fn judge(single: bool, f: Format, s: &[u8]) -> Reading
+#[inline(always)]
+fn judge(single: bool, f: Format, s: &[u8]) -> Result<(FrameHeader, usize), Refusal>
     ensures { reading_of (λ t. core_in (format_of f) t (bits s.now)) result ≡ read_with single (format_of f) s.now }
 {
     if s.len() == 0 {
-        return Reading::Refused(Refusal::NoOctets);
+        return Err(Refusal::NoOctets);
     }
     let t = type_in(f, s);
     let k = t as usize;
     let n = octets_of(f, k);
     if n == 0 {
-        return Reading::Refused(Refusal::ReservedType);
+        return Err(Refusal::ReservedType);
     }
     if s.len() < n {
-        return Reading::Refused(Refusal::TooShort);
+        return Err(Refusal::TooShort);
     }
     if !ends(single, s.len(), n) {
-        return Reading::Refused(Refusal::OctetsAfter);
+        return Err(Refusal::OctetsAfter);
     }
     if !spare_clear(f, s, k, n) {
-        return Reading::Refused(Refusal::SpareBit);
+        return Err(Refusal::SpareBit);
     }
     let h = header_in(f, s, t);
     if !header_good(f, s, h) {
-        return Reading::Refused(Refusal::FieldRange);
+        return Err(Refusal::FieldRange);
     }
     if !crc_good(f, s, k) {
-        return Reading::Refused(Refusal::CrcMismatch);
+        return Err(Refusal::CrcMismatch);
     }
-    Reading::Frame(h, n)
+    Ok((h, n))
 }
 
 // The octets of a valid frame that carries no modes. 0 where it carries them, or is refused.
@@ -101,7 +102,7 @@ fn plain_front(f: Format, s: &[u8]) -> usize
 }
 
 // The frame at the start of `s`, where more may follow; its count is the octets that it takes.
-pub fn read_next(f: Format, s: &[u8]) -> Reading
+pub fn read_next(f: Format, s: &[u8]) -> Result<(FrameHeader, usize), Refusal>
     ensures { reading_of (λ t. core_in (format_of f) t (bits s.now)) result ≡ read_frame (format_of f) s.now }
 {
     judge(false, f, s)
@@ -109,7 +110,7 @@ pub fn read_next(f: Format, s: &[u8]) -> Reading
 
 // The same for the scan of a conversion, and for it alone: plain frames come first, since they are the most, and a function with one
 // caller becomes part of its loop.
-pub fn read_front(f: Format, s: &[u8]) -> Reading
+pub fn read_front(f: Format, s: &[u8]) -> Result<(FrameHeader, usize), Refusal>
     ensures { reading_of (λ t. core_in (format_of f) t (bits s.now)) result ≡ read_frame (format_of f) s.now }
 {
     let n = plain_front(f, s);
@@ -120,53 +121,21 @@ pub fn read_front(f: Format, s: &[u8]) -> Reading
             indication: 0,
             request: 0,
         };
-        return Reading::Frame(h, n);
+        return Ok((h, n));
     }
     read_next(f, s)
 }
 
 // One IF1 frame, with nothing behind it. `pub` for the link's Down. The tests are those of `judge`; here the format is known, and the compiler
 // makes them part of Down: with `judge`, which other calls share, Down of a SID frame takes a third more time.
-pub fn read_if1(s: &[u8]) -> Reading
+pub fn read_if1(s: &[u8]) -> Result<(FrameHeader, usize), Refusal>
     ensures { reading_of (λ t. core_in if1 t (bits s.now)) result ≡ read_with true if1 s.now }
 {
-    if s.len() == 0 {
-        return Reading::Refused(Refusal::NoOctets);
-    }
-    let t = type_in(Format::If1, s);
-    let k = t as usize;
-    let whole = octets_of(Format::If1, k);
-    if whole == 0 {
-        return Reading::Refused(Refusal::ReservedType);
-    }
-    if s.len() < whole {
-        return Reading::Refused(Refusal::TooShort);
-    }
-    if !ends(true, s.len(), whole) {
-        return Reading::Refused(Refusal::OctetsAfter);
-    }
-    if !spare_clear(Format::If1, s, k, whole) {
-        return Reading::Refused(Refusal::SpareBit);
-    }
-    let h = header_in(Format::If1, s, t);
-    if !header_good(Format::If1, s, h) {
-        return Reading::Refused(Refusal::FieldRange);
-    }
-    if !crc_good(Format::If1, s, k) {
-        return Reading::Refused(Refusal::CrcMismatch);
-    }
-    Reading::Frame(h, whole)
-}
-
-// One frame, with nothing behind it.
-fn read_single(f: Format, s: &[u8]) -> Reading
-    ensures { reading_of (λ t. core_in (format_of f) t (bits s.now)) result ≡ read_with true (format_of f) s.now }
-{
-    judge(true, f, s)
+    judge(true, Format::If1, s)
 }
 
 // Puts the core of the frame at the start of `s`, whose header is `h`, packed into the buffer, if that has room. `pub` for the viewer.
-pub fn core_out(f: Format, s: &[u8], h: FrameHeader, core: &mut [u8]) -> Reading
+pub fn core_out(f: Format, s: &[u8], h: FrameHeader, core: &mut [u8]) -> Result<(FrameHeader, usize), Refusal>
     requires { (known h.frame_type ≡ true) × (octets (format_of f) h.frame_type ≤ length s.now) }
     ensures { IntoBuffer (into_buffer (frame_with h (core_in (format_of f) h.frame_type (bits s.now))) (length core.old)) core.old core.new result }
 {
@@ -174,22 +143,17 @@ pub fn core_out(f: Format, s: &[u8], h: FrameHeader, core: &mut [u8]) -> Reading
     let k = core_bits(t);
     let m = (k + 7) / 8;
     if core.len() < m {
-        return Reading::Refused(Refusal::OutputShort);
+        return Err(Refusal::OutputShort);
     }
     bits::put_run(s, header_bits(f, t), k, core, 0);
-    Reading::Frame(h, m)
+    Ok((h, m))
 }
 
 // Reads one frame: its fields in the answer, with how many octets its packed core takes in the buffer. An entry.
-pub fn read_frame(format: u64, s: &[u8], core: &mut [u8]) -> Reading
+pub fn read_frame(format: u64, s: &[u8], core: &mut [u8]) -> Result<(FrameHeader, usize), Refusal>
     ensures { IntoBuffer (read_call format s.now (length core.old)) core.old core.new result }
 {
-    let FormatFound::Is(f) = format_numbered(format) else {
-        return Reading::Refused(Refusal::ArgumentRange);
-    };
-    let r = read_single(f, s);
-    let Reading::Frame(h, _) = r else {
-        return r;
-    };
+    let f = Format::try_from(format)?;
+    let (h, _) = judge(true, f, s)?;
     core_out(f, s, h, core)
 }

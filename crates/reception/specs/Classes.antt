@@ -1,15 +1,15 @@
 -- What the code's reception classes say: document 01's class for each case.
-use Rattle.definitions.specs.Outcome.{Outcome, refused, ok}
+use Rattle.std.specs.Prelude.{Result}
+use Rattle.definitions.specs.Outcome.{Outcome}
 use Rattle.definitions.specs.Reception as paper
-use Rattle.frame.specs.Answers.{number_of}
+use Rattle.frame.specs.Answers.{outcome_of}
+use Rattle.frame.specs.declared.Refusal.{Refusal}
 use Rattle.reception.specs.declared.SpeechClass.{SpeechClass}
 use Rattle.reception.specs.declared.SpeechClass.TheVariants as speech_case
 use Rattle.reception.specs.declared.SidClass.{SidClass}
 use Rattle.reception.specs.declared.SidClass.TheVariants as sid_case
 use Rattle.reception.specs.declared.Reception.{Reception}
 use Rattle.reception.specs.declared.Reception.TheVariants as reception
-use Rattle.reception.specs.declared.Classified.{Classified}
-use Rattle.reception.specs.declared.Classified.TheVariants as classified
 
 abbrev pub speech_of : SpeechClass → paper.SpeechClass
 speech_of speech_case.Good = paper.speech_good
@@ -26,6 +26,5 @@ reception_of (reception.Sid s) = paper.sid (sid_of s)
 reception_of reception.SpeechLost = paper.speech_lost
 reception_of reception.NoData = paper.no_data
 
-abbrev pub classified_of : Classified → Outcome paper.Reception
-classified_of (classified.Class c) = ok (reception_of c)
-classified_of (classified.Refused e) = refused (number_of e)
+abbrev pub classified_of : Result Reception Refusal → Outcome paper.Reception
+classified_of = outcome_of reception_of

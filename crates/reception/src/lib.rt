@@ -35,19 +35,10 @@ pub enum Reception {
     NoData,
 }
 
-#[derive(Clone, Copy)]
-pub enum Classified {
-    Class(Reception),
-    Refused(Refusal),
-}
-
 fn speech_class(good: bool) -> SpeechClass
     ensures { speech_of result ≡ speech_class good }
 {
-    if good {
-        return SpeechClass::Good;
-    }
-    SpeechClass::Bad
+    if good { SpeechClass::Good } else { SpeechClass::Bad }
 }
 
 fn sid_class(good: bool, sti: bool) -> SidClass
@@ -79,21 +70,14 @@ pub fn class_of(t: u64, good: bool, sti: bool) -> Reception
 }
 
 // The class by numbers.
-pub fn reception_class(t: u64, q: u64, sti: u64) -> Classified
+pub fn reception_class(t: u64, q: u64, sti: u64) -> Result<Reception, Refusal>
     ensures { classified_of result ≡ reception_class t q sti }
 {
-    if 15 < t {
-        return Classified::Refused(Refusal::ArgumentRange);
-    }
-    if 1 < q {
-        return Classified::Refused(Refusal::ArgumentRange);
-    }
-    if 1 < sti {
-        return Classified::Refused(Refusal::ArgumentRange);
+    if 15 < t || 1 < q || 1 < sti {
+        return Err(Refusal::ArgumentRange);
     }
     if octets_of(Format::If2, t as usize) == 0 {
-        return Classified::Refused(Refusal::ReservedType);
+        return Err(Refusal::ReservedType);
     }
-    let class = class_of(t, q == 1, sti == 1);
-    Classified::Class(class)
+    Ok(class_of(t, q == 1, sti == 1))
 }
