@@ -14,7 +14,7 @@ pub const NO_REQUEST: u16 = 15;
 
 // A RAB sub-flow combination (RFC), document 01's row: the frames of one type, and the bits of each sub-flow.
 #[repr(C)]
-#[derive(Clone, Copy)]
+#[derive(Clone, Copy, Default)]
 pub struct Combination {
     pub rfci: u8,
     pub frame_type: u8,
@@ -25,7 +25,7 @@ pub struct Combination {
 
 // An RFC set (RFCS): the combinations in its first `count` places. No set is one without any.
 #[repr(C)]
-#[derive(Clone, Copy)]
+#[derive(Clone, Copy, Default)]
 pub struct RfcSet {
     pub places: [Combination; 11],
     pub count: u32,
