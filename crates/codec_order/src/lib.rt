@@ -2,14 +2,16 @@
 // `order_to_row` are entries.
 #![tactic(auto)]
 
-ghost use Rattle.std.specs.Prelude.{◌≡◌, length};
+ghost use Rattle.std.specs.Prelude.{◌≡◌, leb, length};
+ghost use Rattle.definitions.specs.Outcome.{ok, unless};
+ghost use Rattle.definitions.specs.Frames.{core_bits};
 ghost use Rattle.definitions.specs.Reading.{counted};
 ghost use Rattle.definitions.specs.Order.{to_core_call, to_row_call};
 ghost use Rattle.frame.specs.Answers.{built_of};
 ghost use Rattle.frame_builder.specs.Output.{IntoOutput};
 
 use frame::table::core_bits;
-use frame::{Built, HIGHEST_MODE, Refusal};
+use frame::{HIGHEST_MODE, Refusal};
 use frame_builder::core_fill_clear;
 use order_tables::{put_core, put_row};
 use ordering::zero_or_one;
@@ -17,73 +19,71 @@ use ordering::zero_or_one;
 // Modes 5 to 8 have no table.
 const HIGHEST_ORDERED: u64 = 4;
 
-// The tests of the call from row to core, in document 01's order: the octets that it writes, or the refusal.
-fn judge_row(mode: u64, row: &[u8], room: usize) -> Built
-    ensures { built_of result ≡ counted (to_core_call mode row.now room) }
+// The first test of either call: the core's bits in the mode.
+fn bits_in(mode: u64) -> Result<usize, Refusal>
+    ensures { built_of result ≡ unless 11 (leb mode 8) (ok (core_bits mode)) }
 {
     if HIGHEST_MODE < mode {
-        return Built::Refused(Refusal::ArgumentRange);
+        return Err(Refusal::ArgumentRange);
     }
-    let k = core_bits(mode as usize);
+    Ok(core_bits(mode as usize))
+}
+
+// The last tests of either call, which writes `n` octets: the mode has a table, and they have room.
+fn octets_written(mode: u64, n: usize, room: usize) -> Result<usize, Refusal>
+    ensures { built_of result ≡ unless 12 (leb mode 4) (unless 10 (leb n room) (ok n)) }
+{
+    if HIGHEST_ORDERED < mode {
+        return Err(Refusal::NoCodecOrder);
+    }
+    if room < n {
+        return Err(Refusal::OutputShort);
+    }
+    Ok(n)
+}
+
+// The tests of the call from row to core, in document 01's order: the octets that it writes, or the refusal.
+fn judge_row(mode: u64, row: &[u8], room: usize) -> Result<usize, Refusal>
+    ensures { built_of result ≡ counted (to_core_call mode row.now room) }
+{
+    let k = bits_in(mode)?;
     if row.len() != k {
-        return Built::Refused(Refusal::ArgumentRange);
+        return Err(Refusal::ArgumentRange);
     }
     if !zero_or_one(row) {
-        return Built::Refused(Refusal::ArgumentRange);
+        return Err(Refusal::ArgumentRange);
     }
-    if HIGHEST_ORDERED < mode {
-        return Built::Refused(Refusal::NoCodecOrder);
-    }
-    let m = (k + 7) / 8;
-    if room < m {
-        return Built::Refused(Refusal::OutputShort);
-    }
-    Built::Octets(m)
+    octets_written(mode, (k + 7) / 8, room)
 }
 
 // The same of the call from core to row.
-fn judge_core(mode: u64, core: &[u8], room: usize) -> Built
+fn judge_core(mode: u64, core: &[u8], room: usize) -> Result<usize, Refusal>
     ensures { built_of result ≡ counted (to_row_call mode core.now room) }
 {
-    if HIGHEST_MODE < mode {
-        return Built::Refused(Refusal::ArgumentRange);
-    }
-    let k = core_bits(mode as usize);
+    let k = bits_in(mode)?;
     if core.len() != (k + 7) / 8 {
-        return Built::Refused(Refusal::ArgumentRange);
+        return Err(Refusal::ArgumentRange);
     }
     if !core_fill_clear(core, k) {
-        return Built::Refused(Refusal::SpareBit);
+        return Err(Refusal::SpareBit);
     }
-    if HIGHEST_ORDERED < mode {
-        return Built::Refused(Refusal::NoCodecOrder);
-    }
-    if room < k {
-        return Built::Refused(Refusal::OutputShort);
-    }
-    Built::Octets(k)
+    octets_written(mode, k, room)
 }
 
 // From the codec's row to the packed core. An entry.
-pub fn order_to_core(mode: u64, row: &[u8], core: &mut [u8]) -> Built
+pub fn order_to_core(mode: u64, row: &[u8], core: &mut [u8]) -> Result<usize, Refusal>
     ensures { IntoOutput (to_core_call mode row.now (length core.old)) core.old core.new result }
 {
-    let r = judge_row(mode, row, core.len());
-    let Built::Octets(m) = r else {
-        return r;
-    };
+    let n = judge_row(mode, row, core.len())?;
     put_core(mode, row, core);
-    Built::Octets(m)
+    Ok(n)
 }
 
 // From the packed core to the codec's row. An entry.
-pub fn order_to_row(mode: u64, core: &[u8], row: &mut [u8]) -> Built
+pub fn order_to_row(mode: u64, core: &[u8], row: &mut [u8]) -> Result<usize, Refusal>
     ensures { IntoOutput (to_row_call mode core.now (length row.old)) row.old row.new result }
 {
-    let r = judge_core(mode, core, row.len());
-    let Built::Octets(m) = r else {
-        return r;
-    };
+    let n = judge_core(mode, core, row.len())?;
     put_row(mode, core, row);
-    Built::Octets(m)
+    Ok(n)
 }

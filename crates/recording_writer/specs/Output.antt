@@ -1,5 +1,5 @@
 -- What is asked where a recording is written.
-use Rattle.std.specs.Prelude.{◌≡◌, Bool, true, false, ◌≢◌, List, ℕ, ◌≤◌, length}
+use Rattle.std.specs.Prelude.{◌≡◌, List, ℕ, ◌≤◌, length}
 use Rattle.definitions.specs.Frames.{Format, Frame}
 use Rattle.recordings.specs.Placed.{done}
 use Rattle.recordings.specs.Recordings.{limit, read_recording}
@@ -10,8 +10,3 @@ pub record Convertible (f g : Format) (r : ℕ) (s : List ℕ) (xs : List Frame)
   pub read : read_recording f s ≡ done xs
   pub within : length (converted f g r xs) ≤ limit
   pub room : length (converted f g r xs) ≤ length out
-
--- whether two formats are the same
-pub record Same (same : Bool) (f g : Format) : Type 0 where
-  pub equal : same ≡ true → f ≡ g
-  pub unequal : same ≡ false → f ≢ g

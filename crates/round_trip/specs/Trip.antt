@@ -1,5 +1,5 @@
 -- What a round trip by two conversions promises (document 01, "A trip in demand 3 is two conversions with one r").
-use Rattle.std.specs.Prelude.{◌≡◌, ◌↔◌, ◌≢◌, List, ℕ, ◌≤◌, length}
+use Rattle.std.specs.Prelude.{◌≡◌, ◌↔◌, ◌≢◌, List, ℕ, ◌≤◌, length, Result}
 use Rattle.definitions.specs.Frames.{Format, Frame}
 use Rattle.definitions.specs.Reading.{overwritten}
 use Rattle.recordings.specs.Placed.{Placed, done, and_then_at}
@@ -8,20 +8,21 @@ use Rattle.recordings.specs.Conversion.{converted, convert_call, counted_at, buf
 use Rattle.recordings.specs.Demand3.{ValidRecording, format_number, Returns}
 use Rattle.recording_reader.specs.Answers.{counts_of}
 use Rattle.recording_reader.specs.declared.Counts.{Counts}
+use Rattle.recording_reader.specs.declared.RefusedAt.{RefusedAt}
 
 -- "The second takes the octets so written, all of them and no others"
 abbrev pub back_call : (from to request : ℕ) → List ℕ → (room₁ room₂ : ℕ) → Placed (ℕ × List ℕ)
 back_call from to request s room₁ room₂ = and_then_at (convert_call from to request s room₁) (λ y. convert_call to from request y.1 room₂)
 
 -- neither call was refused, and the second wrote `back`: the recording exactly where demand 3 says that it returns unchanged
-pub record Returned (f : Format) (r : ℕ) (s : List ℕ) (xs : List Frame) (out₀ out : List ℕ) (a : Counts) : Type 0 where
+pub record Returned (f : Format) (r : ℕ) (s : List ℕ) (xs : List Frame) (out₀ out : List ℕ) (a : Result Counts RefusedAt) : Type 0 where
   pub back : List ℕ
   pub answer : counts_of a ≡ done (length xs, length back)
   pub output : out ≡ overwritten back out₀
   pub unchanged : (back ≡ s) ↔ Returns f r xs
 
 -- the buffers are mid₀ and out₀ before the call, and mid and out after it
-pub record MakesTrip (from to request : ℕ) (s mid₀ mid out₀ out : List ℕ) (a : Counts) : Type 0 where
+pub record MakesTrip (from to request : ℕ) (s mid₀ mid out₀ out : List ℕ) (a : Result Counts RefusedAt) : Type 0 where
   -- for every input
   pub answer : counts_of a ≡ counted_at (back_call from to request s (length mid₀) (length out₀))
   pub middle : mid ≡ buffer_after (convert_call from to request s (length mid₀)) mid₀

@@ -4,7 +4,7 @@
 ghost use Rattle.round_trip.specs.Trip.{MakesTrip};
 
 use converter::convert;
-use recording_reader::Counts;
+use recording_reader::{Counts, RefusedAt};
 
 // Converts `s` into `mid`, and what was written there back into `out`; the answer is the second call's, or the first's refusal.
 pub fn round_trip(
@@ -14,12 +14,9 @@ pub fn round_trip(
     s: &[u8],
     mid: &mut [u8],
     out: &mut [u8],
-) -> Counts
+) -> Result<Counts, RefusedAt>
     ensures { MakesTrip from to request s.now mid.old mid.new out.old out.new result }
 {
-    let a = convert(from, to, request, s, mid);
-    let Counts::Done(_, n) = a else {
-        return a;
-    };
-    convert(to, from, request, &mid[..n], out)
+    let written = convert(from, to, request, s, mid)?;
+    convert(to, from, request, &mid[..written.octets], out)
 }
