@@ -38,7 +38,7 @@ fn write_short(f: Format, h: FrameHeader, src: &[u8], from: usize, out: &mut [u8
 
 // Writes the three header octets of an IF1 frame of types 0 to 9 whose core is there. The CRC is taken from the core where it has been put,
 // since there it begins an octet.
-fn put_modes(h: FrameHeader, out: &mut [u8])
+pub fn put_modes(h: FrameHeader, out: &mut [u8])
     requires { (carries_modes if1 h.frame_type ≡ true) × (h.quality < 2) × (h.indication < 16) × (h.request < 16) × (octets if1 h.frame_type ≤ length out.old) }
     ensures { (front rest : List ℕ) (core : List Bool) → length front ≡ 3 → length core ≡ core_bits h.frame_type → out.old ≡ front ++ (pack core ++ rest) → out.new ≡ layout if1 (frame_with h core) ++ rest }
 {
