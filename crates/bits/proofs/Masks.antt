@@ -25,10 +25,6 @@ one_shl k h = shl_exact 1 k 32 (lit< tt) (omega arith) ∙ one-mul (2 ^ k)
 pub ones_shl : (k : ℕ) → k ≤ 8 → (1 * 2 ^ k) % 2 ^ 32 - 1 ≡ 2 ^ k - 1
 ones_shl k h = ap (λ (n : ℕ). n - 1) (one_shl k h)
 
--- `x & 7`
-pub low3 : (n : ℕ) → bit_and n 7 ≡ n % 8
-low3 n = and_mask n 3
-
 -- an octet with a field of k digits put below its a top ones and above its b low ones
 module _ (a k b x v : ℕ) (e : a + (k + b) ≡ 8) (hv : v < 2 ^ k) where
   clear : 255 - (2 ^ k - 1) * 2 ^ b ≡ (2 ^ a - 1) * 2 ^ (k + b) + (2 ^ b - 1)
@@ -94,15 +90,14 @@ put_code_is k b x v h hv = ap₂ (λ (m n : ℕ). bit_or (bit_and x (255 - m)) n
 
 -- what `field_at` computes
 pub read_is : (s : List ℕ) (from k lo : ℕ) → Octets s → k ≤ 8 → from < 8 * length s → lo ≡ get_or s (from / 8 + 1) 0
-    → bit_and (bit_or (get_or s (from / 8) 0 * 256 % 2 ^ 32) lo / 2 ^ (16 - bit_and from 7 - k)) ((1 * 2 ^ k) % 2 ^ 32 - 1) ≡ num k (drop from (bits s))
+    → bit_and (bit_or (get_or s (from / 8) 0 * 256 % 2 ^ 32) lo / 2 ^ (16 - from % 8 - k)) ((1 * 2 ^ k) % 2 ^ 32 - 1) ≡ num k (drop from (bits s))
 read_is s from k lo o hk hf e =
     let q : ℕ = from / 8 in
-    let a : ℕ = bit_and from 7 in
-    let b : ℕ = 16 - bit_and from 7 - k in
-    let ha : bit_and from 7 ≡ from % 8 = low3 from in
+    let a : ℕ = from % 8 in
+    let b : ℕ = 16 - from % 8 - k in
     let e' : lo ≡ get_or s (suc (from / 8)) 0 = e ∙ ap (λ (n : ℕ). get_or s n 0) (add-one (from / 8)) in
     let hlo : lo < 2 ^ 8 = subst (λ (n : ℕ). n < 2 ^ 8) (sym e') (o (suc (from / 8))) in
-    let at : 8 * (from / 8) + bit_and from 7 ≡ from = omega arith in
+    let at : 8 * (from / 8) + from % 8 ≡ from = omega arith in
     ap₂ (λ (w m : ℕ). bit_and (w / 2 ^ b) m)
     (ap (λ (n : ℕ). bit_or n lo) (shl_exact 8 8 32 (o q) (lit≤ tt)) ∙ or_shifted (get_or s q 0) 8 lo hlo)
     (ones_shl k hk)
@@ -112,26 +107,24 @@ read_is s from k lo o hk hf e =
     ∙ ap (λ (n : ℕ). num k (drop n (bits s))) at
 
 -- what `bit_at` computes
-pub bit_is : (s : List ℕ) (i : ℕ) → i < 8 * length s → eqb (bit_and (get_or s (i / 8) 0 / 2 ^ (7 - bit_and i 7)) 1) 1 ≡ get_or (bits s) i false
+pub bit_is : (s : List ℕ) (i : ℕ) → i < 8 * length s → eqb (bit_and (get_or s (i / 8) 0 / 2 ^ (7 - i % 8)) 1) 1 ≡ get_or (bits s) i false
 unfolding odd
 bit_is s i h =
-    let ha : bit_and i 7 ≡ i % 8 = low3 i in
-    let at : 8 * (i / 8) + bit_and i 7 ≡ i = omega arith in
-    ap (λ (n : ℕ). eqb n 1) (and_mask (get_or s (i / 8) 0 / 2 ^ (7 - bit_and i 7)) 1)
-    ∙ sym (bits-get_or (i / 8) (bit_and i 7) (7 - bit_and i 7) s (omega arith) (omega arith))
+    let at : 8 * (i / 8) + i % 8 ≡ i = omega arith in
+    ap (λ (n : ℕ). eqb n 1) (and_mask (get_or s (i / 8) 0 / 2 ^ (7 - i % 8)) 1)
+    ∙ sym (bits-get_or (i / 8) (i % 8) (7 - i % 8) s (omega arith) (omega arith))
     ∙ ap (λ (n : ℕ). get_or (bits s) n false) at
 
 -- k bits go into the octet that holds bit at
-pub part : (src dst : List ℕ) (from at k v y : ℕ) → from + k ≤ 8 * length src → at + k ≤ 8 * length dst → 0 < k → bit_and at 7 + k ≤ 8
+pub part : (src dst : List ℕ) (from at k v y : ℕ) → from + k ≤ 8 * length src → at + k ≤ 8 * length dst → 0 < k → at % 8 + k ≤ 8
     → v ≡ num k (drop from (bits src))
-    → digits 8 y ≡ take (bit_and at 7) (digits 8 (get_or dst (at / 8) 0)) ++ (digits k v ++ drop (bit_and at 7 + k) (digits 8 (get_or dst (at / 8) 0)))
+    → digits 8 y ≡ take (at % 8) (digits 8 (get_or dst (at / 8) 0)) ++ (digits k v ++ drop (at % 8 + k) (digits 8 (get_or dst (at / 8) 0)))
     → bits (set dst (at / 8) y) ≡ copied (bits dst) at (drop from (bits src)) k
 part src dst from at k v y hs hd k0 k8 ev ey =
-    let a7 : bit_and at 7 ≡ at % 8 = low3 at in
-    let place : 8 * (at / 8) + bit_and at 7 ≡ at = omega arith in
+    let place : 8 * (at / 8) + at % 8 ≡ at = omega arith in
     let new : digits k v ≡ take k (drop from (bits src)) =
     ap (digits k) ev ∙ digits-num-le k (drop from (bits src)) (omega (arith, length-drop from (bits src), length-bits src)) in
-    bits_put (at / 8) (bit_and at 7) k dst y (digits k v) (omega arith) k8 ey
+    bits_put (at / 8) (at % 8) k dst y (digits k v) (omega arith) k8 ey
     ∙ ap₂ (λ (p : ℕ) (l : List Bool). take p (bits dst) ++ (l ++ drop (p + k) (bits dst))) place new
 
 -- a copy of m bits and then one of k more
@@ -215,22 +208,20 @@ low_is s n k hk h0 hn =
 
 -- what `clear_to_border` stores, and what it leaves where there is nothing to clear
 module _ (d : List ℕ) (end : ℕ) where
-  pub cleared : (y : ℕ) → end ≤ 8 * length d → 0 < bit_and end 7
-      → digits 8 y ≡ take (bit_and end 7) (digits 8 (get_or d (end / 8) 0)) ++ (digits (8 - bit_and end 7) 0 ++ drop (bit_and end 7 + (8 - bit_and end 7)) (digits 8 (get_or d (end / 8) 0)))
+  pub cleared : (y : ℕ) → end ≤ 8 * length d → 0 < end % 8
+      → digits 8 y ≡ take (end % 8) (digits 8 (get_or d (end / 8) 0)) ++ (digits (8 - end % 8) 0 ++ drop (end % 8 + (8 - end % 8)) (digits 8 (get_or d (end / 8) 0)))
       → bits (set d (end / 8) y) ≡ take end (bits d) ++ (replicate (8 * octets_for end - end) false ++ drop (8 * octets_for end) (bits d))
   cleared y h p e =
-      let a : ℕ = bit_and end 7 in
-      let a7 : bit_and end 7 ≡ end % 8 = low3 end in
-      let place : 8 * (end / 8) + bit_and end 7 ≡ end = omega arith in
-      let few : 8 - bit_and end 7 ≡ 8 * octets_for end - end = omega arith in
-      let past : 8 * (end / 8) + bit_and end 7 + (8 - bit_and end 7) ≡ 8 * octets_for end = omega arith in
+      let a : ℕ = end % 8 in
+      let place : 8 * (end / 8) + end % 8 ≡ end = omega arith in
+      let few : 8 - end % 8 ≡ 8 * octets_for end - end = omega arith in
+      let past : 8 * (end / 8) + end % 8 + (8 - end % 8) ≡ 8 * octets_for end = omega arith in
       bits_put (end / 8) a (8 - a) d y (digits (8 - a) 0) (omega arith) (omega arith) e
-      ∙ ap₂ (λ (p q : ℕ). take p (bits d) ++ (digits (8 - bit_and end 7) 0 ++ drop q (bits d))) place past
+      ∙ ap₂ (λ (p q : ℕ). take p (bits d) ++ (digits (8 - end % 8) 0 ++ drop q (bits d))) place past
       ∙ ap (λ (l : List Bool). take end (bits d) ++ (l ++ drop (8 * octets_for end) (bits d))) (digits-zero (8 - a) ∙ ap (λ (k : ℕ). replicate k false) few)
 
-  pub at_border : bit_and end 7 ≤ 0 → bits d ≡ take end (bits d) ++ (replicate (8 * octets_for end - end) false ++ drop (8 * octets_for end) (bits d))
+  pub at_border : end % 8 ≤ 0 → bits d ≡ take end (bits d) ++ (replicate (8 * octets_for end - end) false ++ drop (8 * octets_for end) (bits d))
   at_border p =
-      let a7 : bit_and end 7 ≡ end % 8 = low3 end in
       let none : 8 * octets_for end - end ≡ 0 = omega arith in
       let here : 8 * octets_for end ≡ end = omega arith in
       sym (ap₂ (λ (k q : ℕ). take end (bits d) ++ (replicate k false ++ drop q (bits d))) none here ∙ take-append-drop end (bits d))

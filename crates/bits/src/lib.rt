@@ -12,8 +12,7 @@ pub fn bit_at(s: &[u8], i: usize) -> bool
     requires { i < 8 * length s.now }
     ensures { result ≡ get_or (bits s.now) i false }
 {
-    let x = s[i >> 3];
-    (x >> (7 - (i & 7))) & 1 == 1
+    (s[i / 8] >> (7 - i % 8)) & 1 == 1
 }
 
 // The number that the `k` bits of `s` from index `from` write.
@@ -21,8 +20,8 @@ pub fn field_at(s: &[u8], from: usize, k: usize) -> u8
     requires { (k ≤ 8) × (from < 8 * length s.now) }
     ensures { result ≡ num k (drop from (bits s.now)) }
 {
-    let i = from >> 3;
-    let a = from & 7;
+    let i = from / 8;
+    let a = from % 8;
     let hi = u32::from(s[i]);
     let lo = u32::from(s.get(i + 1).copied().unwrap_or(0));
     let w = (hi << 8) | lo;
@@ -35,9 +34,8 @@ pub fn low_bits(s: &[u8], n: usize, k: usize) -> u8
     requires { (k ≤ 8) × (0 < n) × (n ≤ length s.now) }
     ensures { result ≡ num k (drop (8 * n - k) (bits s.now)) }
 {
-    let x = s[n - 1];
     let m = (1u32 << k) - 1;
-    ((x as u32) & m) as u8
+    (u32::from(s[n - 1]) & m) as u8
 }
 
 // The octet `x`, with `v` in its `k` bits after the first `a`.
@@ -47,8 +45,8 @@ fn with_field(x: u8, a: usize, k: usize, v: u8) -> u8
 {
     let b = 8 - a - k;
     let m = ((1u32 << k) - 1) << b;
-    let kept = (x as u32) & (255 - m);
-    (kept | ((v as u32) << b)) as u8
+    let kept = u32::from(x) & (255 - m);
+    (kept | (u32::from(v) << b)) as u8
 }
 
 // Copies `k` bits into one octet of `dst`.
@@ -58,9 +56,8 @@ fn copy_part(src: &[u8], from: usize, k: usize, dst: &mut [u8], at: usize)
 {
     if 0 < k {
         let v = field_at(src, from, k);
-        let j = at >> 3;
-        let x = dst[j];
-        dst[j] = with_field(x, at & 7, k, v);
+        let j = at / 8;
+        dst[j] = with_field(dst[j], at % 8, k, v);
     }
 }
 
@@ -89,8 +86,8 @@ fn copy_octets(src: &[u8], from: usize, m: usize, dst: &mut [u8], j: usize)
     requires { (from + 8 * m ≤ 8 * length src.now) × (j + m ≤ length dst.old) }
     ensures { bits dst.new ≡ copied (bits dst.old) (8 * j) (drop from (bits src.now)) (8 * m) }
 {
-    let i = from >> 3;
-    let a = from & 7;
+    let i = from / 8;
+    let a = from % 8;
     if a == 0 {
         each_whole(src, i, m, dst, j);
     } else {
@@ -103,11 +100,10 @@ fn clear_to_border(dst: &mut [u8], end: usize)
     requires { end ≤ 8 * length dst.old }
     ensures { bits dst.new ≡ take end (bits dst.old) ++ (replicate (8 * octets_for end - end) false ++ drop (8 * octets_for end) (bits dst.old)) }
 {
-    let a = end & 7;
+    let a = end % 8;
     if 0 < a {
-        let j = end >> 3;
-        let x = dst[j];
-        dst[j] = with_field(x, a, 8 - a, 0);
+        let j = end / 8;
+        dst[j] = with_field(dst[j], a, 8 - a, 0);
     }
 }
 
@@ -123,21 +119,22 @@ fn put_last(src: &[u8], from: usize, k: usize, dst: &mut [u8], j: usize)
 
 // Puts the `n` bits of `src` from index `from` behind the first `at` bits of `dst`, and fills their last octet up with 0. Later octets stay.
 // Up to an octet's border of `dst`, then whole octets, then the rest.
+// `src`, `from` and the count are no struct: a value of it would be made for each of the calls below, and taken apart in the call.
 pub fn put_run(src: &[u8], from: usize, n: usize, dst: &mut [u8], at: usize)
     requires { (from + n ≤ 8 * length src.now) × (at + n ≤ 8 * length dst.old) × (from + n < 2 ^ 32) × (at + n < 2 ^ 32) }
     ensures { dst.new ≡ pack (take at (bits dst.old) ++ take n (drop from (bits src.now))) ++ drop (octets_for (at + n)) dst.old }
 {
-    let gap = (8 - (at & 7)) & 7;
+    let gap = (8 - at % 8) % 8;
     if n < gap {
         copy_part(src, from, n, dst, at);
         clear_to_border(dst, at + n);
         return;
     }
     copy_part(src, from, gap, dst, at);
-    let m = (n - gap) >> 3;
-    let j = (at + gap) >> 3;
+    let m = (n - gap) / 8;
+    let j = (at + gap) / 8;
     copy_octets(src, from + gap, m, dst, j);
-    put_last(src, from + gap + (m << 3), (n - gap) & 7, dst, j + m);
+    put_last(src, from + gap + 8 * m, (n - gap) % 8, dst, j + m);
 }
 
 // Does nothing. Its contract: packing and unpacking undo each other.

@@ -1,24 +1,18 @@
 -- `bits::copy_part` meets its contract: the field of the source goes into one octet of the target, as `part` says. Assumes nothing.
 use native.Mathlib.Omega.{arith}
 use mathlib.Core.Path.{◌≡◌, sym, ap, ◌∙◌}
-use Prim.Native.Nat.{◌%◌}
 use lib.ListN.{drop}
-use lib.Bits.{bit_and}
 use Rattle.bits.specs.Bits.{bits, copied}
 use Rattle.bits.proofs.BitLaws.{num-lt, copied-zero}
-use Rattle.bits.proofs.Masks.{low3, part}
+use Rattle.bits.proofs.Masks.{part}
 use Rattle.bits.proofs.copy_part.Goals as goal
 
 pub with_field-requires : goal.with_field-requires
-with_field-requires c =
-    let a = c.args in
-    let e : bit_and c.args.at 7 ≡ c.args.at % 8 = low3 a.at in
-    (omega arith, rw c.field_at-v.ensures (num-lt a.k _))
+with_field-requires c = (omega arith, rw c.field_at-v.ensures (num-lt c.args.k _))
 
 pub returns-then-k-gt0 : goal.returns-then-k-gt0
 returns-then-k-gt0 c =
     let a = c.args in
-    let e = low3 a.at in
     part a.src.now a.dst.now a.from a.at a.k c.field_at-v.result c.with_field.result c.requires.1 c.requires.2 (omega arith) (omega arith) c.field_at-v.ensures c.with_field.ensures
 
 pub returns-else-k-gt0 : goal.returns-else-k-gt0

@@ -1,11 +1,10 @@
 -- `bits::each_shifted` meets its contract: each turn stores one octet made of two neighbours, as `octet_turn` says. Assumes nothing.
-use borrow.Author.Rules.{rules}
-use mathlib.Core.Path.{◌≡◌, refl, sym, ap, ◌∙◌}
+use mathlib.Core.Path.{◌≡◌, sym, ap, ◌∙◌}
 use Prim.Native.Nat.{ℕ, ◌+◌, ◌*◌, ◌-◌, ◌/◌, ◌%◌, ◌<◌, ◌^◌}
 use native.Mathlib.Omega.{arith}
 use mathlib.Core.List.{List}
-use lib.ListN.{length, get_or, drop, length-set}
-use Rattle.bits.specs.Bits.{bits, num, copied, Octets}
+use lib.ListN.{length, get_or, drop}
+use Rattle.bits.specs.Bits.{bits, num, Octets}
 use Rattle.bits.proofs.BitLaws.{copied-zero, window_field}
 use Rattle.bits.proofs.Masks.{octet_turn, shifted_is}
 use lib.Bits.{bit_or}

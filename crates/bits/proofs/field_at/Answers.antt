@@ -1,5 +1,5 @@
 -- `bits::field_at` meets its contract: the field lies within two octets, which are read as one number; past the end the second is 0. Assumes nothing.
-use Rattle.std.proofs.Common.{◌≡◌, rules, arith, sym, ◌∙◌, get_or, ◌+◌, ◌/◌}
+use Rattle.std.proofs.Common.{◌≡◌, rules, arith, get_or, ◌+◌, ◌/◌}
 use Rattle.std.proofs.lemmas.Grind.{common_steps}
 use Rattle.std.proofs.lemmas.Option.{unwrap_or-slice_get}
 use native.Mathlib.Nat.{lt_of_lt_of_le, lt_of_le_of_lt, le_of_eq}

@@ -1,57 +1,24 @@
 -- `bits::put_run` meets its contract: the run is copied up to a border, then by whole octets, and its last octet is written filled up; a run
 -- that ends before the first border is copied, and then filled up. Assumes nothing.
-use borrow.Author.Rules.{rules}
-use native.Mathlib.Omega.{arith}
-use Prim.Native.Nat.{ℕ, ◌+◌, ◌-◌, ◌*◌, ◌/◌, ◌%◌, ◌^◌}
-use lib.Bits.{bit_and}
+use Rattle.std.proofs.Common.{ℕ, ◌+◌, ◌-◌, ◌*◌, ◌/◌, ◌%◌, arith, rules}
 use Rattle.bits.proofs.BitLaws.{put_is, put_last_is}
-use Rattle.bits.proofs.Masks.{low3, two}
+use Rattle.bits.proofs.Masks.{two}
 use Rattle.bits.proofs.put_run.Goals as goal
-
-pub overflow_sub-gap : goal.overflow_sub-gap
-overflow_sub-gap c =
-    omega (arith, low3 c.args.at)
-
-pub copy_part-requires : goal.copy_part-requires
-copy_part-requires c =
-    let a = c.args in
-    let e = low3 a.at in
-    let f = low3 (8 - bit_and a.at 7) in
-    (omega arith, omega arith, omega arith)
 
 pub returns-then-n-gap : goal.returns-then-n-gap
 returns-then-n-gap c =
     let a = c.args in
     put_is a.src.now a.dst.now c.copy_part.new.dst c.clear_to_border.new.dst a.from a.n a.at
-    (λ i. search rules) (λ i. search rules) c.requires.0 c.requires.1
-    c.copy_part.ensures c.clear_to_border.ensures
-
-pub copy_part-requires-2 : goal.copy_part-requires-2
-copy_part-requires-2 c =
-    let a = c.args in
-    let e = low3 a.at in
-    let f = low3 (8 - bit_and a.at 7) in
-    (omega arith, omega arith, omega arith)
-
-pub put_last-requires : goal.put_last-requires
-put_last-requires c =
-    let a = c.args in
-    let e = low3 a.at in
-    let f = low3 (8 - bit_and a.at 7) in
-    let h = low3 (a.n - bit_and (8 - bit_and a.at 7) 7) in
-    (omega arith, omega arith, omega arith)
+    (λ i. search rules) (λ i. search rules) c.requires.0 c.requires.1 c.copy_part.ensures c.clear_to_border.ensures
 
 pub returns : goal.returns
 returns c =
     let a = c.args in
-    let e = low3 a.at in
-    let f = low3 (8 - bit_and a.at 7) in
-    let h = low3 (a.n - bit_and (8 - bit_and a.at 7) 7) in
-    let g : ℕ = bit_and (8 - bit_and a.at 7) 7 in
+    let g : ℕ = (8 - a.at % 8) % 8 in
     let m : ℕ = (a.n - g) / 8 in
     let d₁ = c.copy_part-2.new.dst in
     let d₂ = c.copy_octets.new.dst in
-    put_last_is a.src.now a.dst.now d₂ c.put_last.new.dst a.from a.n a.at (g + 8 * m) (bit_and (a.n - g) 7) ((a.at + g) / 8 + m) (a.from + g + m * 8 % 2 ^ 64)
+    put_last_is a.src.now a.dst.now d₂ c.put_last.new.dst a.from a.n a.at (g + 8 * m) ((a.n - g) % 8) ((a.at + g) / 8 + m) (a.from + g + 8 * m)
     (λ i. search rules) (λ i. search rules) c.requires.0 c.requires.1 (omega arith) (omega arith) (omega arith)
     (two a.src.now a.dst.now d₁ d₂ a.from a.at a.n g m ((a.at + g) / 8) c.requires.0 c.requires.1 (omega arith) (omega arith) c.copy_part-2.ensures c.copy_octets.ensures)
     c.put_last.ensures

@@ -14,14 +14,15 @@ overflow_sub-m c = omega (arith, one_shl c.args.k (search rules), pow_pos c.args
 pub overflow_sub-kept : goal.overflow_sub-kept
 overflow_sub-kept c = shifted_ones-le c.args.k (8 - c.args.a - c.args.k) (omega arith)
 
-pub overflow_cast-result-3 : goal.overflow_cast-result-3
-overflow_cast-result-3 c =
+pub overflow_cast-result-2 : goal.overflow_cast-result-2
+overflow_cast-result-2 c =
     let k = c.args.k in
     let b : ℕ = 8 - c.args.a - c.args.k in
-    record { fits = rw (put_code_is k b c.args.x c.args.v (omega arith) c.requires.1) (put-lt c.args.a k b c.args.x c.args.v (omega arith) c.requires.1 c.ranges.x.fits) }
+    record { fits = rw (c.from.ensures, c.from-2.ensures, put_code_is k b c.args.x c.args.v (omega arith) c.requires.1) (put-lt c.args.a k b c.args.x c.args.v (omega arith) c.requires.1 c.ranges.x.fits) }
 
 pub returns : goal.returns
 returns c =
     let k = c.args.k in
     let b : ℕ = 8 - c.args.a - c.args.k in
-    ap (digits 8) (put_code_is k b c.args.x c.args.v (omega arith) c.requires.1) ∙ put-digits c.args.a k b c.args.x c.args.v (omega arith) c.requires.1
+    rw (c.from.ensures, c.from-2.ensures)
+    (ap (digits 8) (put_code_is k b c.args.x c.args.v (omega arith) c.requires.1) ∙ put-digits c.args.a k b c.args.x c.args.v (omega arith) c.requires.1)
