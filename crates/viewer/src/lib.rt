@@ -1,161 +1,111 @@
 // Viewing a recording, a frame a call (document 01, "Recordings and conversion", last paragraph). A `Viewer` carries the recording and the
-// place of the next frame; it is thin, and `next_at` does its work over a plain slice. `view_open` and `view_next` are entries: they hand the
-// place out and take it in by numbers. The other `pub` functions are for programs in Rattle.
+// place of the next frame. `view_open` and `view_next` are entries: they hand the place out and take it in. The other `pub` functions are for
+// programs in Rattle.
 #![tactic(auto)]
 
-ghost use Rattle.std.specs.Prelude.{◌≡◌, length};
+ghost use Rattle.std.specs.Prelude.{◌≡◌, ℕ, OnOk, length};
+ghost use Rattle.definitions.specs.Outcome.{ok};
+ghost use Rattle.definitions.specs.Reading.{format_numbered};
 ghost use Rattle.recordings.specs.Viewer.{open_call, view_call};
-ghost use Rattle.frame.specs.declared.Refusal.TheVariants.{ArgumentRange};
-ghost use Rattle.recording_reader.specs.Answers.{counts_of};
-ghost use Rattle.viewer.specs.Answers.{viewed_at, Nexts, ViewsInto};
-ghost use Rattle.viewer.specs.declared.Shown.TheVariants as shown;
+ghost use Rattle.frame.specs.Answers.{format_of};
+ghost use Rattle.viewer.specs.Answers.{place_of, opened_of, Nexts, ViewsInto};
 
-use frame::{FormatFound, FrameHeader, Reading, Refusal, format_numbered};
+use frame::{Format, FrameHeader, Refusal};
 use frame_reader::{core_out, read_next};
-use recording_reader::{Counts, LIMIT, headed, header_octets};
+use recording_reader::{LIMIT, RefusedAt, headed, header_octets};
 
-// A recording, its format's number, and the offset and the number of the next frame.
+// The place of a frame: its number, and the octet at which it begins.
+#[derive(Clone, Copy)]
+pub struct Place {
+    pub number: u64,
+    pub offset: u64,
+}
+
+// A recording, its format, and the place of the next frame.
 #[derive(Clone, Copy)]
 pub struct Viewer<'a> {
     pub rec: &'a [u8],
-    pub format: u64,
-    pub offset: u64,
-    pub number: u64,
+    pub format: Format,
+    pub place: Place,
 }
 
-// A frame's fields, the end of the recording, or the refusal with the frame's number and its first octet.
-#[derive(Clone, Copy)]
-pub enum Shown {
-    Frame(FrameHeader),
-    End,
-    Refused(Refusal, u64, u64),
-}
-
-// What a call hands out, and the number and the offset for the next call.
-#[derive(Clone, Copy)]
-pub struct Viewed {
-    pub shown: Shown,
-    pub number: u64,
-    pub offset: u64,
-}
-
-// What a call hands out that does not move.
-fn stays(shown: Shown, number: u64, offset: u64) -> Viewed
-    ensures { result ≡ viewed_at shown number offset }
-{
-    Viewed {
-        shown,
-        number,
-        offset,
+impl<'a> Viewer<'a> {
+    // A viewer at a place.
+    pub fn new(rec: &'a [u8], format: Format, place: Place) -> Viewer<'a>
+        ensures { (result.rec ≡ rec.entry) × (result.format ≡ format) × (result.place ≡ place) }
+    {
+        Viewer { rec, format, place }
     }
-}
 
-// An argument is out of range.
-fn out_of_range(number: u64, offset: u64) -> Viewed
-    ensures { result ≡ viewed_at (shown.Refused ArgumentRange 0 0) number offset }
-{
-    stays(Shown::Refused(Refusal::ArgumentRange, 0, 0), number, offset)
-}
-
-// The work: the frame that begins at an offset and has this number.
-pub fn next_at(rec: &[u8], format: u64, offset: u64, number: u64) -> Viewed
-    ensures { Nexts format offset number rec.now result }
-{
-    let FormatFound::Is(f) = format_numbered(format) else {
-        return out_of_range(number, offset);
-    };
-    let len = rec.len() as u64;
-    if len < offset {
-        return out_of_range(number, offset);
-    }
-    if offset < number {
-        return out_of_range(number, offset);
-    }
-    if offset == len {
-        return stays(Shown::End, number, offset);
-    }
-    let at = offset as usize;
-    let r = read_next(f, &rec[at..]);
-    match r {
-        Reading::Refused(e) => stays(Shown::Refused(e, number, offset), number, offset),
-        Reading::Frame(h, n) => Viewed {
-            shown: Shown::Frame(h),
+    // The next frame with the place behind it, or the end.
+    pub fn next(&self) -> Result<Option<(FrameHeader, Place)>, RefusedAt>
+        ensures { (n : ℕ) → format_numbered n ≡ ok (format_of self.now.format) → Nexts n self.now.place.offset self.now.place.number self.now.rec.now result }
+    {
+        let Place { number, offset } = self.place;
+        let len = self.rec.len() as u64;
+        if len < offset {
+            return Err(Refusal::ArgumentRange.into());
+        }
+        if offset < number {
+            return Err(Refusal::ArgumentRange.into());
+        }
+        if offset == len {
+            return Ok(None);
+        }
+        let (h, n) = read_next(self.format, &self.rec[offset as usize..]).map_err(|refusal| {
+            RefusedAt {
+                refusal,
+                frame: number,
+                octet: offset,
+            }
+        })?;
+        let behind = Place {
             number: number + 1,
             offset: offset + n as u64,
-        },
+        };
+        Ok(Some((h, behind)))
     }
-}
 
-// A viewer at a place.
-pub fn new<'a>(rec: &'a [u8], format: u64, offset: u64, number: u64) -> Viewer<'a>
-    ensures { (result.rec ≡ rec.entry) × (result.format ≡ format) × (result.offset ≡ offset) × (result.number ≡ number) }
-{
-    Viewer {
-        rec,
-        format,
-        offset,
-        number,
-    }
-}
-
-// The next frame of a viewer.
-pub fn next<'a>(v: Viewer<'a>) -> Viewed
-    ensures { Nexts v.entry.format v.entry.offset v.entry.number v.entry.rec.now result }
-{
-    next_at(v.rec, v.format, v.offset, v.number)
-}
-
-// The viewer at another place of its recording.
-pub fn moved<'a>(v: Viewer<'a>, number: u64, offset: u64) -> Viewer<'a>
-    ensures { (result.rec ≡ v.entry.rec) × (result.format ≡ v.entry.format) × (result.offset ≡ offset) × (result.number ≡ number) }
-{
-    Viewer {
-        rec: v.rec,
-        format: v.format,
-        offset,
-        number,
+    // The viewer at another place of its recording.
+    pub fn moved(self, place: Place) -> Viewer<'a>
+        ensures { (result.rec ≡ self.entry.rec) × (result.format ≡ self.entry.format) × (result.place ≡ place) }
+    {
+        Viewer { place, ..self }
     }
 }
 
 // The next frame, for a caller that has no viewer.
-pub fn next_of(format: u64, rec: &[u8], offset: u64, number: u64) -> Viewed
-    ensures { Nexts format offset number rec.now result }
+pub fn next_of(format: u64, place: Place, rec: &[u8]) -> Result<Option<(FrameHeader, Place)>, RefusedAt>
+    ensures { Nexts format place.offset place.number rec.now result }
 {
-    next(new(rec, format, offset, number))
+    Viewer::new(rec, Format::try_from(format)?, place).next()
 }
 
-// Opens a recording: the number and the offset of its first frame, or the refusal. An entry.
-pub fn view_open(format: u64, rec: &[u8]) -> Counts
-    ensures { counts_of result ≡ open_call format rec.now }
+// Opens a recording: the place of its first frame, or the refusal. An entry.
+pub fn view_open(format: u64, rec: &[u8]) -> Result<Place, RefusedAt>
+    ensures { opened_of result ≡ open_call format rec.now }
 {
-    let FormatFound::Is(f) = format_numbered(format) else {
-        return Counts::Refused(Refusal::ArgumentRange, 0, 0);
-    };
+    let f = Format::try_from(format)?;
     if LIMIT < rec.len() {
-        return Counts::Refused(Refusal::TooLong, 0, 0);
+        return Err(Refusal::TooLong.into());
     }
     if !headed(f, rec) {
-        return Counts::Refused(Refusal::StorageHeader, 0, 0);
+        return Err(Refusal::StorageHeader.into());
     }
-    Counts::Done(0, header_octets(f))
+    Ok(Place {
+        number: 0,
+        offset: header_octets(f) as u64,
+    })
 }
 
-// The next frame, its packed core put into a buffer. An entry.
-pub fn view_next(format: u64, offset: u64, number: u64, rec: &[u8], core: &mut [u8]) -> Viewed
-    ensures { ViewsInto (view_call format offset number rec.now (length core.old)) (number, offset) core.old core.new result }
+// The next frame with the place behind it, its packed core put into a buffer; or the end. An entry.
+pub fn view_next(format: u64, place: Place, rec: &[u8], core: &mut [u8]) -> Result<Option<(FrameHeader, Place)>, RefusedAt>
+    ensures { ViewsInto (view_call format place.offset place.number rec.now (length core.old)) (place_of place) core.old core.new result }
 {
-    let a = next_of(format, rec, offset, number);
-    let s = a.shown;
-    let Shown::Frame(h) = s else {
-        return a;
+    let f = Format::try_from(format)?;
+    let Some((h, behind)) = Viewer::new(rec, f, place).next()? else {
+        return Ok(None);
     };
-    let FormatFound::Is(f) = format_numbered(format) else {
-        return a;
-    };
-    let from = offset as usize;
-    let r = core_out(f, &rec[from..], h, core);
-    match r {
-        Reading::Refused(e) => stays(Shown::Refused(e, 0, 0), number, offset),
-        Reading::Frame(_, _) => a,
-    }
+    core_out(f, &rec[place.offset as usize..], h, core)?;
+    Ok(Some((h, behind)))
 }
