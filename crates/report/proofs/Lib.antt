@@ -1,2 +1,0 @@
-pub mod CountingLaws
-pub mod CallLaws

@@ -1,10 +1,10 @@
 -- What the code's report says: document 01's counts, or its number of the refusal with the place.
-use Rattle.recordings.specs.Placed.{Placed, refused_at, done}
+use Rattle.std.specs.Prelude.{Result}
+use Rattle.recordings.specs.Placed.{Placed}
 use Rattle.recordings.specs.Report as paper
-use Rattle.frame.specs.Answers.{number_of}
+use Rattle.recording_reader.specs.Answers.{placed_of}
+use Rattle.recording_reader.specs.declared.RefusedAt.{RefusedAt}
 use Rattle.report.specs.declared.Report.{Report}
-use Rattle.report.specs.declared.Reported.{Reported}
-use Rattle.report.specs.declared.Reported.TheVariants as reported
 
 abbrev pub counts_of : Report → paper.Report
 counts_of r = record {
@@ -16,6 +16,5 @@ counts_of r = record {
   no_data = r.no_data;
 }
 
-abbrev pub reported_of : Reported → Placed paper.Report
-reported_of (reported.Counts r) = done (counts_of r)
-reported_of (reported.Refused e frame octet) = refused_at (number_of e) frame octet
+abbrev pub reported_of : Result Report RefusedAt → Placed paper.Report
+reported_of = placed_of counts_of
