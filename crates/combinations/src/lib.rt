@@ -2,8 +2,9 @@
 // Down: none is an entry.
 #![tactic(auto)]
 
-ghost use Rattle.std.specs.Prelude.{◌≡◌};
-ghost use Rattle.links.specs.Sets.{link_type, combination_good, combinations, by_rfci, by_type, lookup};
+ghost use Rattle.std.specs.Prelude.{◌≡◌, ℕ, Bool};
+ghost use Rattle.links.specs.declared.Combination.{Combination};
+ghost use Rattle.links.specs.Sets.{link_type, combination_good, combinations, Key, by_rfci, by_type, has, lookup};
 ghost use Rattle.combinations.specs.Answers.{found_of};
 
 use frame::table::core_bits;
@@ -18,12 +19,14 @@ pub const NO_DATA: u64 = 15;
 
 // ---- one combination
 
+#[tactic(auto, using(std::proofs::lemmas::Bool::Decides::nat_tests))]
 fn link_type(t: u8) -> bool
     ensures { result ≡ link_type t }
 {
     t <= SID || u64::from(t) == NO_DATA
 }
 
+#[tactic(auto, using(std::proofs::lemmas::Bool::Decides::nat_tests), unfolding(links::specs::Sets::combination_good))]
 pub fn combination_good(c: Combination) -> bool
     ensures { result ≡ combination_good c }
 {
@@ -34,24 +37,28 @@ pub fn combination_good(c: Combination) -> bool
 
 // ---- lookup
 
-// The combination with an RFCI, for Up.
-pub fn lookup_rfci(set: &RfcSet, rfci: u8) -> Option<Combination>
-    ensures { found_of 16 result ≡ lookup by_rfci rfci (combinations set.now) }
+// The first good combination of the set that a test picks.
+fn first_good<F: Fn(Combination) -> bool>(set: &RfcSet, picks: F) -> Option<Combination>
+    requires { F.IsAlwaysCallable picks }
+    ensures { (k : Key) (n : ℕ) → ((c : Combination) (b : Bool) → F.post picks c b → b ≡ has k n c) → found_of 16 result ≡ lookup k n (combinations set.now) }
 {
     set.places
         .iter()
         .take(set.count as usize)
         .copied()
-        .find(|c| c.rfci == rfci && combination_good(*c))
+        .find(|c| picks(*c) && combination_good(*c))
+}
+
+// The combination with an RFCI, for Up.
+pub fn lookup_rfci(set: &RfcSet, rfci: u8) -> Option<Combination>
+    ensures { found_of 16 result ≡ lookup by_rfci rfci (combinations set.now) }
+{
+    first_good(set, |c| c.rfci == rfci)
 }
 
 // The combination of a type, for Down.
 pub fn lookup_type(set: &RfcSet, t: u8) -> Option<Combination>
     ensures { found_of 16 result ≡ lookup by_type t (combinations set.now) }
 {
-    set.places
-        .iter()
-        .take(set.count as usize)
-        .copied()
-        .find(|c| c.frame_type == t && combination_good(*c))
+    first_good(set, |c| c.frame_type == t)
 }
