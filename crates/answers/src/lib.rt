@@ -1,18 +1,18 @@
-// The answers that the levels of the C interface share (include/amrwb.h), and how the entries' answers become them. For the export crates.
+// The answers that the levels of the C interface share (include/amrwb.h), and how the entries' answers become them.
 #![tactic(auto)]
 
-ghost use Rattle.std.specs.Prelude.{◌≡◌, length};
+ghost use Rattle.std.specs.Prelude.{◌≡◌, List, Bool, ℕ};
 ghost use Rattle.definitions.specs.Outcome.{refused};
-ghost use Rattle.definitions.specs.Reading.{read_call};
-ghost use Rattle.frame.specs.Answers.{number_of, built_of};
+ghost use Rattle.frame.specs.Answers.{number_of, reading_of, built_of};
 ghost use Rattle.recording_reader.specs.Answers.{counts_of};
-ghost use Rattle.answers.specs.Flat.{placed_numbers, answer_numbers, frame_numbers, FlatFrame};
+ghost use Rattle.answers.specs.Flat.{placed_numbers, answer_numbers, frame_numbers};
 
-use frame::{Built, Reading, Refusal};
-use recording_reader::Counts;
+use frame::{FrameHeader, Refusal};
+use recording_reader::{Counts, RefusedAt};
 
+// Frames read, and octets written or to be written; or a refusal with its place.
 #[repr(C)]
-#[derive(Clone, Copy)]
+#[derive(Clone, Copy, Default)]
 pub struct Answer {
     pub refusal: u64,
     pub frame: u64,
@@ -21,8 +21,9 @@ pub struct Answer {
     pub octets: u64,
 }
 
+// A frame's fields, and the octets of its packed core; or a refusal.
 #[repr(C)]
-#[derive(Clone, Copy)]
+#[derive(Clone, Copy, Default)]
 pub struct FrameAnswer {
     pub refusal: u64,
     pub frame: u64,
@@ -34,81 +35,78 @@ pub struct FrameAnswer {
     pub core_octets: u64,
 }
 
-// The answer of a call over a recording.
-pub fn counts_answer(a: Counts) -> Answer
-    ensures { result ≡ placed_numbers (counts_of a) }
-{
-    match a {
-        Counts::Done(k, n) => Answer {
-            refusal: 0,
-            frame: 0,
-            octet: 0,
-            frames: k as u64,
-            octets: n as u64,
-        },
-        Counts::Refused(e, k, at) => Answer {
-            refusal: frame::refusal_number(e),
-            frame: k as u64,
-            octet: at as u64,
-            frames: 0,
-            octets: 0,
-        },
+impl From<Refusal> for Answer {
+    ghost from_gives = { λ e a. a ≡ answer_numbers (refused (number_of e)) };
+
+    fn from(e: Refusal) -> Answer {
+        Answer {
+            refusal: u64::from(e),
+            ..Answer::default()
+        }
     }
 }
 
-// The answer of a call that builds a frame.
-pub fn built_answer(b: Built) -> Answer
-    ensures { result ≡ answer_numbers (built_of b) }
-{
-    match b {
-        Built::Octets(n) => Answer {
-            refusal: 0,
-            frame: 0,
-            octet: 0,
-            frames: 0,
-            octets: n as u64,
-        },
-        Built::Refused(e) => Answer {
-            refusal: frame::refusal_number(e),
-            frame: 0,
-            octet: 0,
-            frames: 0,
-            octets: 0,
-        },
+impl From<Refusal> for FrameAnswer {
+    ghost from_gives = { λ e a. a ≡ frame_numbers (refused (number_of e)) };
+
+    fn from(e: Refusal) -> FrameAnswer {
+        FrameAnswer {
+            refusal: u64::from(e),
+            ..FrameAnswer::default()
+        }
     }
 }
 
-// The answer of a refused call that reads a frame.
-pub fn refused_frame(e: Refusal) -> FrameAnswer
-    ensures { result ≡ frame_numbers (refused (number_of e)) }
-{
-    FrameAnswer {
-        refusal: frame::refusal_number(e),
-        frame: 0,
-        octet: 0,
-        frame_type: 0,
-        quality: 0,
-        indication: 0,
-        request: 0,
-        core_octets: 0,
+// A call over a recording.
+impl From<Result<Counts, RefusedAt>> for Answer {
+    ghost from_gives = { λ r a. a ≡ placed_numbers (counts_of r) };
+
+    fn from(r: Result<Counts, RefusedAt>) -> Answer {
+        match r {
+            Ok(c) => Answer {
+                frames: c.frames as u64,
+                octets: c.octets as u64,
+                ..Answer::default()
+            },
+            Err(e) => Answer {
+                frame: e.frame,
+                octet: e.octet,
+                ..Answer::from(e.refusal)
+            },
+        }
     }
 }
 
-// Reads a frame and answers in numbers.
-pub fn read_answer(format: u64, octets: &[u8], core: &mut [u8]) -> FrameAnswer
-    ensures { FlatFrame (read_call format octets.now (length core.old)) core.old core.new result }
-{
-    match frame_reader::read_frame(format, octets, core) {
-        Reading::Frame(h, n) => FrameAnswer {
-            refusal: 0,
-            frame: 0,
-            octet: 0,
-            frame_type: h.frame_type as u64,
-            quality: h.quality as u64,
-            indication: h.indication as u64,
-            request: h.request as u64,
-            core_octets: n as u64,
-        },
-        Reading::Refused(e) => refused_frame(e),
+// A call that builds a frame.
+impl From<Result<usize, Refusal>> for Answer {
+    ghost from_gives = { λ r a. a ≡ answer_numbers (built_of r) };
+
+    fn from(r: Result<usize, Refusal>) -> Answer {
+        match r {
+            Ok(n) => Answer {
+                octets: n as u64,
+                ..Answer::default()
+            },
+            Err(e) => Answer::from(e),
+        }
+    }
+}
+
+// A call that reads a frame; where its core is doesn't matter here.
+impl From<Result<(FrameHeader, usize), Refusal>> for FrameAnswer {
+    ghost from_gives = { λ r a. (core : ℕ → List Bool) → a ≡ frame_numbers (reading_of core r) };
+
+    fn from(r: Result<(FrameHeader, usize), Refusal>) -> FrameAnswer {
+        match r {
+            Ok((h, n)) => FrameAnswer {
+                frame_type: u64::from(h.frame_type),
+                quality: u64::from(h.quality),
+                indication: u64::from(h.indication),
+                request: u64::from(h.request),
+                core_octets: n as u64,
+                ..FrameAnswer::default()
+            },
+            Err(e) => FrameAnswer::from(e),
+        }
     }
 }
