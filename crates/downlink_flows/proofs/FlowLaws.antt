@@ -1,14 +1,13 @@
 -- The tests are the definition's, each sub-flow is put into the front of its buffer, and what is said is the definition's. Assumes nothing.
 use mathlib.Core.Path.{◌≡◌, refl, sym, ap, ◌∙◌}
-use mathlib.Core.Bool.{Bool, true, false, not, ◌&&◌, cond}
+use mathlib.Core.Bool.{Bool, true, cond}
 use mathlib.Core.List.{List, ◌++◌}
 use Prim.Native.Nat.{ℕ, ◌+◌, ◌*◌, ◌<◌, ◌≤◌}
-use native.Mathlib.Nat.{zero-add}
 use native.Mathlib.Omega.{arith}
 use lib.Dec.{eqb, leb}
 use lib.ListN.{length, take, drop, length-drop}
 use lib.Seq.{drop-drop, length-take-le}
-use borrow.Author.Tests.{le-leb, lt-leb, leb-true, eq-eqb, ne_eqb}
+use borrow.Author.Tests.{leb-true}
 use Rattle.bits.specs.Bits.{packs, pack, octets_for}
 use Rattle.bits.proofs.BitLaws.{length-pack}
 use Rattle.bits.proofs.Tests.{and_left, and_right}
@@ -21,29 +20,7 @@ use Rattle.downlink_flows.specs.Answers.{Numbers, numbers}
 
 -- ---- the tests
 
-pub fqc-good : (q : ℕ) → q ≡ 1 → ◌≡◌ {A = ℕ} 0 (cond (eqb q 1) 0 1)
-fqc-good q h = sym (ap (λ b. cond b 0 1) (eq-eqb q 1 h))
-
-pub fqc_bad : (q : ℕ) → (q ≡ 1 → ⊥) → ◌≡◌ {A = ℕ} 1 (cond (eqb q 1) 0 1)
-fqc_bad q h = sym (ap (λ b. cond b 0 1) (ne_eqb q 1 h))
-
-pub forwards-none : (h : FrameHeader) (last : ℕ) (core : List Bool) → 9 < h.frame_type → false ≡ forwards last (frame_with h core)
-forwards-none h last core t = sym (ap (λ b. b && not (eqb h.request last)) (lt-leb h.frame_type 9 t))
-
-pub forwards_other : (h : FrameHeader) (last : ℕ) (core : List Bool) → h.frame_type ≤ 9 → not (eqb h.request last) ≡ forwards last (frame_with h core)
-forwards_other h last core t = sym (ap (λ b. b && not (eqb h.request last)) (le-leb h.frame_type 9 t))
-
 module _ (c : Combination) (m₁ m₂ m₃ : ℕ) where
-  pub short1 : (k : ℕ) → k ≡ octets_for c.size1 → m₁ < k → false ≡ roomy c m₁ m₂ m₃
-  short1 k e h = rw (← e, lt-leb k m₁ h)
-
-  pub short2 : (j k : ℕ) → j ≡ octets_for c.size1 → k ≡ octets_for c.size2 → j ≤ m₁ → m₂ < k → false ≡ roomy c m₁ m₂ m₃
-  short2 j k d e g h = rw (← d, ← e, le-leb j m₁ g, lt-leb k m₂ h)
-
-  pub last_tells : (i j k : ℕ) → i ≡ octets_for c.size1 → j ≡ octets_for c.size2 → k ≡ octets_for c.size3 → i ≤ m₁ → j ≤ m₂
-      → leb k m₃ ≡ roomy c m₁ m₂ m₃
-  last_tells i j k a b d g h = rw (← a, ← b, ← d, le-leb i m₁ g, le-leb j m₂ h)
-
   pub record Roomy : Type 0 where
     pub first : c.size1 ≤ 8 * m₁
     pub second : c.size2 ≤ 8 * m₂
@@ -60,20 +37,16 @@ module _ (c : Combination) (m₁ m₂ m₃ : ℕ) where
 
 -- ---- the sub-flows
 
--- a run of bits that was put into an empty front
-pub run_put : (bs : List Bool) (from n : ℕ) (d₀ d : List ℕ) → d ≡ pack (take n (drop from bs)) ++ drop (octets_for (0 + n)) d₀
-    → d ≡ pack (take n (drop from bs)) ++ drop (octets_for n) d₀
-run_put bs from n d₀ d e = e ∙ ap (λ k. pack (take n (drop from bs)) ++ drop (octets_for k) d₀) (zero-add n)
-
 -- no bits
 pub none-put : (bs : List Bool) (from n : ℕ) (d : List ℕ) → n ≡ 0 → d ≡ pack (take n (drop from bs)) ++ drop (octets_for n) d
 unfolding packs pack
 none-put bs from n d z = sym (ap (λ n. pack (take n (drop from bs)) ++ drop (octets_for n) d) z)
 
 -- a run that begins behind the skipped bits of a core
-pub flow_put : (bs : List Bool) (from skip n : ℕ) (d₀ d : List ℕ) → d ≡ pack (take n (drop (from + skip) bs)) ++ drop (octets_for n) d₀
+pub flow_put : (bs : List Bool) (at from skip n : ℕ) (d₀ d : List ℕ) → at ≡ from + skip → d ≡ pack (take n (drop at bs)) ++ drop (octets_for n) d₀
     → d ≡ pack (take n (drop skip (drop from bs))) ++ drop (octets_for n) d₀
-flow_put bs from skip n d₀ d e = e ∙ ap (λ l. pack (take n l) ++ drop (octets_for n) d₀) (sym (drop-drop skip from bs))
+flow_put bs at from skip n d₀ d h e =
+    e ∙ ap (λ l. pack (take n l) ++ drop (octets_for n) d₀) (ap (λ k. drop k bs) h ∙ sym (drop-drop skip from bs))
 
 -- a part's octets
 pub length_part : (m n : ℕ) (l : List Bool) → m + n ≤ length l → length (pack (take n (drop m l))) ≡ octets_for n
@@ -90,10 +63,3 @@ module _ (l : Link) (h : FrameHeader) (c : Combination) (core : List Bool) (size
   numbers-split q n₁ n₂ n₃ w eq e₁ e₂ e₃ ew =
       numbers_path _ _ eq refl (e₁ ∙ sym (length_part 0 c.size1 core (omega arith))) (e₂ ∙ sym (length_part c.size1 c.size2 core (omega arith)))
       (e₃ ∙ sym (length_part (c.size1 + c.size2) c.size3 core (omega arith))) ew
-
--- the request that is forwarded, by the test
-pub forwards_it : (b : Bool) (r : ℕ) → b ≡ true → request r ≡ cond b (request r) nothing
-forwards_it b r e = rw e
-
-pub forwards-nothing : (b : Bool) (r : ℕ) → b ≡ false → nothing ≡ cond b (request r) nothing
-forwards-nothing b r e = rw e

@@ -44,15 +44,14 @@ fn fqc_of(quality: u8) -> u8
     if quality == 1 { 0 } else { 1 }
 }
 
-// Puts the `n` bits of `frame` from index `from` on into the front of a sub-flow's buffer.
-fn put_subflow(frame: &[u8], from: usize, n: usize, s: &mut [u8])
-    requires { (from + n ≤ 8 * length frame.now) × (n ≤ 8 * length s.old) × (from + n < 2 ^ 32) }
-    ensures { s.new ≡ pack (take n (drop from (bits frame.now))) ++ drop (octets_for n) s.old }
+// Puts the bits of `frame` from index `from` on into the front of a sub-flow's buffer. Most third sub-flows have none.
+fn put_subflow(frame: &[u8], from: usize, size: u16, s: &mut [u8])
+    requires { (from + size ≤ 8 * length frame.now) × (size ≤ 8 * length s.old) × (from + size < 2 ^ 32) }
+    ensures { s.new ≡ pack (take size (drop from (bits frame.now))) ++ drop (octets_for size) s.old }
 {
-    if n == 0 {
-        return;
+    if 0 < size {
+        bits::put_run(frame, from, usize::from(size), s, 0);
     }
-    bits::put_run(frame, from, n, s, 0);
 }
 
 // Splits the core that begins at bit `from` of `frame`. Sub-flow 3 starts at size 1 + size 2.
@@ -67,12 +66,11 @@ pub fn put_subflows(
     requires { (from ≤ 24) × (from + c.size1 + c.size2 + c.size3 ≤ 8 * length frame.now) × (roomy c (length s1.old) (length s2.old) (length s3.old) ≡ true) }
     ensures { SubflowsPut c (drop from (bits frame.now)) s1.old s1.new s2.old s2.new s3.old s3.new }
 {
-    let n1 = usize::from(c.size1);
-    let n2 = usize::from(c.size2);
-    let n3 = usize::from(c.size3);
-    put_subflow(frame, from, n1, s1);
-    put_subflow(frame, from + n1, n2, s2);
-    put_subflow(frame, from + n1 + n2, n3, s3);
+    let second = from + usize::from(c.size1);
+    let third = second + usize::from(c.size2);
+    put_subflow(frame, from, c.size1, s1);
+    put_subflow(frame, second, c.size2, s2);
+    put_subflow(frame, third, c.size3, s3);
 }
 
 // The request that is forwarded, if one is.

@@ -1,10 +1,8 @@
--- `downlink_flows::put_subflow` meets its contract. Assumes nothing.
+-- `downlink_flows::put_subflow` meets its contract: of no bits nothing is written. Assumes nothing.
+use native.Mathlib.Omega.{arith}
 use Rattle.bits.specs.Bits.{bits}
-use Rattle.downlink_flows.proofs.FlowLaws.{run_put, none-put}
+use Rattle.downlink_flows.proofs.FlowLaws.{none-put}
 use Rattle.downlink_flows.proofs.put_subflow.Goals as goal
 
-pub returns-then-n-eq0 : goal.returns-then-n-eq0
-returns-then-n-eq0 c = let a = c.args in none-put (bits a.frame.now) a.from a.n a.s.now c.if-n-eq0.true
-
-pub returns : goal.returns
-returns c = let a = c.args in run_put (bits a.frame.now) a.from a.n a.s.now _ c.put_run.ensures
+pub returns-else-size-gt0 : goal.returns-else-size-gt0
+returns-else-size-gt0 c = let a = c.args in none-put (bits a.frame.now) a.from a.size a.s.now (omega arith)

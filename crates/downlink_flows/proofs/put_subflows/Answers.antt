@@ -1,11 +1,7 @@
 -- `downlink_flows::put_subflows` meets its contract: each sub-flow is put into the front of its buffer. Assumes nothing.
-use mathlib.Core.Path.{ap, ◌∙◌}
-use mathlib.Core.List.{◌++◌}
 use Prim.Native.Nat.{◌+◌}
-use native.Mathlib.Nat.{add_assoc}
 use native.Mathlib.Omega.{arith}
-use lib.ListN.{take, drop}
-use Rattle.bits.specs.Bits.{bits, pack, octets_for}
+use Rattle.bits.specs.Bits.{bits}
 use Rattle.downlink_flows.proofs.FlowLaws.{roomy-known, flow_put}
 use Rattle.downlink_flows.proofs.put_subflows.Goals as goal
 
@@ -30,6 +26,6 @@ returns c =
     let b = bits a.frame.now in
     record {
       flow1 = c.put_subflow.ensures;
-      flow2 = flow_put b a.from a.c.size1 a.c.size2 a.s2.now _ c.put_subflow-2.ensures;
-      flow3 = flow_put b a.from (a.c.size1 + a.c.size2) a.c.size3 a.s3.now _ (c.put_subflow-3.ensures ∙ ap (λ k. pack (take a.c.size3 (drop k b)) ++ drop (octets_for a.c.size3) a.s3.now) (add_assoc a.from a.c.size1 a.c.size2));
+      flow2 = flow_put b _ a.from a.c.size1 a.c.size2 a.s2.now _ (omega arith) c.put_subflow-2.ensures;
+      flow3 = flow_put b _ a.from (a.c.size1 + a.c.size2) a.c.size3 a.s3.now _ (omega arith) c.put_subflow-3.ensures;
     }
