@@ -4,6 +4,7 @@ use mathlib.Core.Bool.{Bool, true, false}
 use mathlib.Core.List.{List, [], ◌∷◌, ◌++◌}
 use Prim.Native.Nat.{ℕ, zero, suc, ◌+◌, ◌*◌, ◌≤◌}
 use native.Mathlib.Omega.{arith}
+use Rattle.std.proofs.Common.{Result, Ok, Err}
 use lib.ListN.{length, take, drop, length-drop}
 use lib.Seq.{take-take, length-take-le}
 use borrow.Author.Tests.{le-leb, lt-leb, eqb-true}
@@ -25,12 +26,10 @@ use Rattle.downlink_flows.specs.Answers.{numbers, subflows_of, SubflowsPut}
 use Rattle.downlink_flows.specs.declared.Subflows.{Subflows}
 use Rattle.downlink_flows.proofs.FlowLaws.{length_part}
 use Rattle.downlink.specs.Answers.{shown, flow_after, next_link, SplitInto}
-use Rattle.downlink.specs.declared.Downlinked.{Downlinked}
-use Rattle.downlink.specs.declared.Downlinked.TheVariants.{Split, Refused}
 
 -- ---- the promise
 
-pub refused_into : (o : Outcome Down) (a b c : List ℕ) (e : Refusal) → o ≡ refused (number_of e) → SplitInto o a a b b c c (Refused e)
+pub refused_into : (o : Outcome Down) (a b c : List ℕ) (e : Refusal) → o ≡ refused (number_of e) → SplitInto o a a b b c c (Err e)
 refused_into o a b c r e = record {
   answer = sym (ap shown e);
   buffer1 = sym (ap (λ o. flow_after (λ y. y.flow1) o a) e);
@@ -88,7 +87,7 @@ module _ (l : Link) (h : FrameHeader) (s : List ℕ) (c : Combination) (m₁ m�
   pub frame_into : (from : ℕ) (a₀ a b₀ b c₀ d : List ℕ) (r : Subflows) → from ≡ header_bits if1 h.frame_type → roomy c m₁ m₂ m₃ ≡ true
       → SubflowsPut c (drop from (bits s)) a₀ a b₀ b c₀ d
       → subflows_of r ≡ numbers (split l c (frame_with h (core_in if1 h.frame_type (bits s))))
-      → SplitInto (down_frame l (frame_with h (core_in if1 h.frame_type (bits s))) m₁ m₂ m₃) a₀ a b₀ b c₀ d (Split r)
+      → SplitInto (down_frame l (frame_with h (core_in if1 h.frame_type (bits s))) m₁ m₂ m₃) a₀ a b₀ b c₀ d (Ok r)
   unfolding core
   frame_into from a₀ a b₀ b c₀ d r e w put f =
       let o = frame-split w in
@@ -119,7 +118,7 @@ module _ (l : Link) (s : List ℕ) (m₁ m₂ m₃ : ℕ) where
     unfolding down_call
     frame-read x n e = rw (le-leb 1 l.set.count (omega arith), ← e)
 
-pub into_same : (o p : Outcome Down) (a₀ a b₀ b c₀ c : List ℕ) (r : Downlinked) → o ≡ p → SplitInto o a₀ a b₀ b c₀ c r → SplitInto p a₀ a b₀ b c₀ c r
+pub into_same : (o p : Outcome Down) (a₀ a b₀ b c₀ c : List ℕ) (r : Result Subflows Refusal) → o ≡ p → SplitInto o a₀ a b₀ b c₀ c r → SplitInto p a₀ a b₀ b c₀ c r
 into_same o p a₀ a b₀ b c₀ c r e h = subst (λ o. SplitInto o a₀ a b₀ b c₀ c r) e h
 
 -- ---- the state after it

@@ -52,6 +52,7 @@ fn split_read(
 
 // Splits an IF1 frame into the sub-flows of its type's combination. `pub` for level three, which adds the state after the call itself:
 // handed on once more it takes time.
+#[tactic(auto, using(std::proofs::lemmas::Bool::Decides::nat_tests), unfolding(links::specs::Calls::down_call))]
 pub fn split_frame(
     link: Link,
     frame: &[u8],

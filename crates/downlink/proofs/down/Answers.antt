@@ -10,4 +10,8 @@ pub returns : goal.returns
 returns c =
     let a = c.args in
     let p = c.split_frame-answer.ensures in
-    record { split = p; link = c.forwarded_after.ensures a.link refl ∙ ap (λ d. next_link d a.link) p.answer ∙ next_after (down_call a.link a.frame.now (length a.s1.now) (length a.s2.now) (length a.s3.now)) a.link }
+    record {
+      split = p;
+      link = c.forwarded_after-forwarded.ensures a.link refl ∙ ap (λ d. next_link d a.link) p.answer
+        ∙ next_after (down_call a.link a.frame.now (length a.s1.now) (length a.s2.now) (length a.s3.now)) a.link;
+    }

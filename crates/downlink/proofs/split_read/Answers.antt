@@ -1,34 +1,33 @@
 -- `downlink::split_read` meets its contract: the combination of the frame's type splits its core. Assumes nothing.
-use mathlib.Core.Path.{refl, sym, ap, ◌∙◌}
+use mathlib.Core.Path.{◌≡◌, refl, sym, ap, ◌∙◌}
 use Rattle.bits.specs.Bits.{bits}
-use Rattle.definitions.specs.Frames.{if1, core_in}
-use Rattle.frame.specs.Answers.{frame_with}
+use Rattle.definitions.specs.Outcome.{ok}
+use Rattle.definitions.specs.Frames.{if1, header_bits, core_in}
 use Rattle.combinations.specs.Answers.{found_of}
-use Rattle.downlink.proofs.DownLaws.{refused_into, bits-there, core-whole, frame_short, frame_into, frame_missing}
+use Rattle.links.specs.Sets.{combinations, by_type, lookup}
+use Rattle.downlink.proofs.DownLaws.{bits-there, core-whole, frame_into}
 use Rattle.downlink.proofs.split_read.Goals as goal
+use Rattle.downlink.proofs.split_read.Goals.{In_ok-c, After-header_bits}
 
-pub returns-in_default : goal.returns-in_default
-returns-in_default c =
-    let a = c.args in
-    let missing = ap (found_of 16) (sym c.in_default.is) ∙ c.lookup_type.ensures in
-    refused_into _ a.s1.now a.s2.now a.s3.now _ (frame_missing a.link (frame_with a.h (core_in if1 a.h.frame_type (bits a.frame.now))) _ _ _ missing)
+-- the combination was looked up
+found : (c : In_ok-c) → ok c.in_ok-c.c ≡ lookup by_type c.args.h.frame_type (combinations c.args.link.set)
+found c = ap (found_of 16) (sym c.in_ok-c.ensures.ok_part) ∙ c.lookup_type.ensures
 
-pub returns-then-not-is_roomy : goal.returns-then-not-is_roomy
-returns-then-not-is_roomy c =
-    let a = c.args in
-    let found = ap (found_of 16) (sym c.in-Is.is) ∙ c.lookup_type.ensures in
-    refused_into _ a.s1.now a.s2.now a.s3.now _ (frame_short a.link a.h a.frame.now _ _ _ _ found c.requires (sym c.is_roomy.ensures ∙ c.if-not-is_roomy.true))
+-- where the core begins
+begins : (c : After-header_bits) → c.header_bits.result ≡ header_bits if1 c.args.h.frame_type
+begins c = c.header_bits.ensures.0 ∙ ap (header_bits if1) c.from.ensures
 
 pub put_subflows-requires : goal.put_subflows-requires
 put_subflows-requires c =
     let a = c.args in
-    let found = ap (found_of 16) (sym c.in-Is.is) ∙ c.lookup_type.ensures in
-    (c.header_bits.ensures.1, bits-there a.link a.h a.frame.now _ 0 0 0 found c.requires _ c.header_bits.ensures.0, sym c.is_roomy.ensures ∙ c.if-not-is_roomy.false)
+    let at = goal.at.put_subflows-requires c in
+    (c.header_bits.ensures.1, bits-there a.link a.h a.frame.now _ 0 0 0 (found at.In_ok-c) c.requires _ (begins at.After-header_bits), sym c.is_roomy.ensures ∙ c.if-not-is_roomy.false)
 
 pub returns : goal.returns
 returns c =
     let a = c.args in
-    let found = ap (found_of 16) (sym c.in-Is.is) ∙ c.lookup_type.ensures in
-    let w = c.subflows_of.ensures a.link (core_in if1 a.h.frame_type (bits a.frame.now)) refl (core-whole a.link a.h a.frame.now _ 0 0 0 found c.requires) in
-    frame_into a.link a.h a.frame.now _ _ _ _ found c.requires _ a.s1.now _ a.s2.now _ a.s3.now _ c.subflows_of.result c.header_bits.ensures.0
-    (sym c.is_roomy.ensures ∙ c.if-not-is_roomy.false) c.put_subflows.ensures w
+    let at = goal.at.returns c in
+    let f = found at.In_ok-c in
+    frame_into a.link a.h a.frame.now _ _ _ _ f c.requires _ a.s1.now _ a.s2.now _ a.s3.now _ c.subflows_of.result (begins at.After-header_bits)
+    (sym c.is_roomy.ensures ∙ c.if-not-is_roomy.false) c.put_subflows.ensures
+    (c.subflows_of.ensures a.link (core_in if1 a.h.frame_type (bits a.frame.now)) refl (core-whole a.link a.h a.frame.now _ 0 0 0 f c.requires))
