@@ -2,7 +2,7 @@
 // `pub` for the crates of codec order; each asks what their callers have shown, of the table only that it is a permutation.
 #![tactic(auto)]
 
-ghost use Rattle.std.specs.Prelude.{◌≡◌, true, ◌+◌, ◌*◌, ◌≤◌, length, take, drop};
+ghost use Rattle.std.specs.Prelude.{◌≡◌, true, ℕ, ◌*◌, ◌≤◌, ◌<◌, length, get_or, take};
 ghost use Rattle.bits.specs.Bits.{num, bits, pack, octets_for};
 ghost use Rattle.definitions.specs.Reading.{overwritten};
 ghost use Rattle.definitions.specs.Order.{zero_or_one, row_bits, row_octets, ordered, unordered};
@@ -12,26 +12,17 @@ ghost use Rattle.definitions.specs.Claims.{Permutes};
 pub fn zero_or_one(row: &[u8]) -> bool
     ensures { result ≡ zero_or_one row.now }
 {
-    let mut i: usize = 0;
-    while i < row.len() {
-        if 1 < row[i] {
-            return false;
-        }
-        i += 1;
-    }
-    true
+    row.iter().all(|o| *o <= 1)
 }
 
-// The number that `n` bits of the core write, from bit `from` on.
-fn gather(table: &[u16], row: &[u8], from: usize, n: usize) -> u8
-    requires { Permutes (length row.now) table.now × (zero_or_one row.now ≡ true) × (n ≤ 8) × (from + n ≤ length table.now) }
-    ensures { result ≡ num n (drop from (ordered table.now (row_bits row.now))) }
+// The number that the bits of a row write which a part of the table names.
+fn gather(part: &[u16], row: &[u8]) -> u8
+    requires { ((k : ℕ) → k < length part.now → get_or part.now k 0 < length row.now) × (zero_or_one row.now ≡ true) × (length part.now ≤ 8) }
+    ensures { result ≡ num (length part.now) (ordered part.now (row_bits row.now)) }
 {
     let mut v: u8 = 0;
-    let mut i: usize = 0;
-    while i < n {
-        v = v * 2 + row[table[from + i] as usize];
-        i += 1;
+    for n in part {
+        v = v * 2 + row[*n as usize];
     }
     v
 }
@@ -41,15 +32,8 @@ pub fn core_by(table: &[u16], row: &[u8], core: &mut [u8])
     requires { Permutes (length row.now) table.now × (zero_or_one row.now ≡ true) × (octets_for (length table.now) ≤ length core.old) }
     ensures { core.new ≡ overwritten (pack (ordered table.now (row_bits row.now))) core.old }
 {
-    let whole = table.len() / 8;
-    let mut j: usize = 0;
-    while j < whole {
-        core[j] = gather(table, row, 8 * j, 8);
-        j += 1;
-    }
-    let left = table.len() % 8;
-    if 0 < left {
-        core[whole] = gather(table, row, 8 * whole, left) << (8 - left);
+    for (j, part) in table.chunks(8).enumerate() {
+        core[j] = gather(part, row) << (8 - part.len());
     }
 }
 
@@ -58,9 +42,7 @@ pub fn row_by(table: &[u16], core: &[u8], row: &mut [u8])
     requires { Permutes (length table.now) table.now × (length table.now ≤ 8 * length core.now) × (length table.now ≤ length row.old) }
     ensures { row.new ≡ overwritten (row_octets (unordered table.now (take (length table.now) (bits core.now)))) row.old }
 {
-    let mut j: usize = 0;
-    while j < table.len() {
-        row[table[j] as usize] = bits::bit_at(core, j) as u8;
-        j += 1;
+    for (j, n) in table.iter().enumerate() {
+        row[*n as usize] = u8::from(bits::bit_at(core, j));
     }
 }
