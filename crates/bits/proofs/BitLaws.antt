@@ -7,7 +7,7 @@ use native.Mathlib.Nat.{zero-add, suc-add, add_comm, suc-sub-suc, zero-sub, sub-
 use native.Mathlib.Numerals.{one-add}
 use native.Mathlib.Omega.{arith}
 use lib.ListN.{length, get_or, set, take, drop, replicate, length-append, take-append-drop, length-drop, drop_of_length-le, get_or-append, get_or-eq_default, replicate-append-replicate, length-replicate}
-use lib.Seq.{take_at, drop_at, take-append-add, drop-append-add, take-append-le, drop-append-le, take-add, drop-drop, take-nil, drop-nil, drop-cons, set_split, get_or-drop, take_all, length_paste_head}
+use lib.Seq.{take_at, drop_at, take-append-add, drop-append-add, take-append-le, drop-append-le, take-add, take-take, drop-drop, take-nil, drop-nil, drop-cons, set_split, get_or-drop, take_all, length_paste_head, length-take-le}
 use lib.Dec.{eqb}
 use mathlib.Core.Logic.{◌⊎◌, inl, inr, ⊎_elim, ◌↔◌}
 use lib.Arith.{digits_lt}
@@ -546,6 +546,31 @@ no_last src d from k j h =
     let z : 0 ≡ k = omega arith in
     subst (λ (i : ℕ). Last src d from i j d) z
     (sym (ap (λ (i : ℕ). take (8 * j) (bits d) ++ drop (8 * i) (bits d)) (add-zero j) ∙ take-append-drop (8 * j) (bits d)))
+
+-- ---- octets of a run of bits, written from the front on
+
+-- d has the first h octets of s; with m of them put at octet j, where j ≤ h, it has the first j + m
+pub octets_next : (s : List Bool) (d x r : List ℕ) (h j m n : ℕ) → j ≤ h → j ≤ length d → n ≡ j + m → length x ≡ m
+    → bits x ≡ take (8 * m) (drop (8 * j) s) → take (8 * h) (bits d) ≡ take (8 * h) s → take (8 * n) (bits (take j d ++ (x ++ r))) ≡ take (8 * n) s
+octets_next s d x r h j m n hj hd en lx ex e =
+    let long : length (bits (take j d) ++ bits x) ≡ 8 * n =
+    omega (arith, length-append (bits (take j d)) (bits x), length-bits (take j d), length-bits x, length-take-le j d hd) in
+    let all : 8 * j + 8 * m ≡ 8 * n = omega arith in
+    ap (take (8 * n)) (bits-append (take j d) (x ++ r) ∙ ap (λ (l : List Bool). bits (take j d) ++ l) (bits-append x r) ∙ sym (append_assoc (bits (take j d)) (bits x) (bits r)))
+    ∙ take_at (bits (take j d) ++ bits x) (bits r) (8 * n) long
+    ∙ ap₂ (λ (l m : List Bool). l ++ m)
+    (bits-take j d ∙ sym (take-take (8 * j) (8 * h) (bits d) (omega arith)) ∙ ap (take (8 * j)) e ∙ take-take (8 * j) (8 * h) s (omega arith)) ex
+    ∙ sym (take-add (8 * j) (8 * m) s) ∙ ap (λ (k : ℕ). take k s) all
+
+-- one octet more
+pub octet_next : (s : List Bool) (d : List ℕ) (t y : ℕ) → t < length d → 8 * t + 8 ≤ length s → y ≡ num 8 (drop (8 * t) s)
+    → take (8 * t) (bits d) ≡ take (8 * t) s → take (8 * (t + 1)) (bits (set d t y)) ≡ take (8 * (t + 1)) s
+unfolding bits
+octet_next s d t y h hs ey e =
+    let one : bits (y ∷ []) ≡ take 8 (drop (8 * t) s) =
+    append-nil (digits 8 y) ∙ ap (digits 8) ey ∙ digits-num-le 8 (drop (8 * t) s) (omega (arith, length-drop (8 * t) s)) in
+    ap (λ (l : List ℕ). take (8 * (t + 1)) (bits l)) (set_split d t y h)
+    ∙ octets_next s d (y ∷ []) (drop (suc t) d) t t 1 (t + 1) (le_refl t) (omega arith) refl refl one e
 
 -- ---- a number written in front, and read again
 

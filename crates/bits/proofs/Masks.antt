@@ -1,21 +1,20 @@
 -- Masks and shifts as the code writes them.
 -- Assumes nothing.
 use mathlib.Core.Path.{◌≡◌, sym, ap, ap₂, ◌∙◌, subst}
-use mathlib.Core.List.{List, [], ◌++◌, append-nil}
+use mathlib.Core.List.{List, ◌++◌}
 use mathlib.Core.Bool.{Bool, false}
 use Prim.Native.Nat.{ℕ, suc, ◌+◌, ◌-◌, ◌*◌, ◌/◌, ◌%◌, ◌^◌, ◌≤◌, ◌<◌}
-use native.Mathlib.Nat.{one-mul, div-one, add_comm, mul_assoc, add-mul-div_right, mul-mod_left, le_refl, zero-mul, zero-add, add_assoc, mod-lt, lt_of_lt_of_le, lt_of_le_of_lt, add-zero}
+use native.Mathlib.Nat.{one-mul, div-one, add_comm, mul_assoc, add-mul-div_right, mul-mod_left, zero-mul, zero-add, add_assoc, mod-lt, lt_of_lt_of_le, lt_of_le_of_lt, add-zero}
 use native.Mathlib.Omega.{arith}
-use lib.ListN.{length, get_or, set, take, drop, replicate, length-drop, drop_of_length-le, take-append-drop}
-use lib.Seq.{drop-drop}
+use lib.ListN.{length, get_or, set, take, drop, replicate, length-drop, take-append-drop}
+use lib.Seq.{drop-drop, take_all, length-take-le}
 use borrow.Rule.Slice.PartMut.{put_mid}
-use Rattle.std.specs.List.{between}
 use lib.Dec.{lit≤, lit<, eqb}
 use native.Mathlib.Numerals.{add-one}
 use lib.Bits.{bit_and, bit_or, and_mask, and_block, or_block, or_zero_r, or_shifted, or_shifted_r, and_le_l, or_lt}
 use lib.Pow.{pow_pos, pow_mono, shl_exact, shl_lt, split, ones_lt, ones_split, mod-mod-pow, high, low, pow-add, shr_lt, shl-shr, mod-pow-add}
 use Rattle.bits.specs.Bits.{octets_for, Octets, bits, num, odd, copied, digits}
-use Rattle.bits.proofs.BitLaws.{octet_field, digits-zero, window_field, bits-get_or, bits_put, copied_more, length-bits, bits-take, bits-drop, bits-append, length_digits, digits-num-le, digits-join, digits_mod, take-digits, drop-digits}
+use Rattle.bits.proofs.BitLaws.{octet_field, digits-zero, window_field, bits-get_or, bits_put, copied_more, length-bits, bits-take, bits-drop, bits-append, digits-num-le, digits-join, digits_mod, take-digits, drop-digits}
 
 -- `1 << k` at u32
 pub one_shl : (k : ℕ) → k ≤ 8 → (1 * 2 ^ k) % 2 ^ 32 ≡ 2 ^ k
@@ -137,36 +136,28 @@ then src d₀ dst from at m k x hs hd e f =
     ∙ copied_more (bits d₀) (bits dst) at (drop from (bits src)) m k
     (omega (arith, length-bits d₀)) (omega (arith, length-drop from (bits src), length-bits src)) e
 
--- a turn of a loop over whole octets of the target
-pub octet_turn : (src d₀ dst : List ℕ) (from j m t y : ℕ) → t < m → from + 8 * m ≤ 8 * length src → j + m ≤ length d₀
-    → length dst ≡ length d₀
-    → y ≡ num 8 (drop (from + 8 * t) (bits src))
-    → bits dst ≡ copied (bits d₀) (8 * j) (drop from (bits src)) (8 * t)
-    → bits (set dst (j + t) y) ≡ copied (bits d₀) (8 * j) (drop from (bits src)) (8 * (t + 1))
-octet_turn src d₀ dst from j m t y ht hs hd hl ey inv =
-    let old : ℕ = get_or dst (j + t) 0 in
-    let none : drop 8 (digits 8 (get_or dst (j + t) 0)) ≡ [] = drop_of_length-le (digits 8 old) {i = 8} (omega (arith, length_digits 8 old)) in
-    let new : digits 8 y ≡ take 8 (drop (from + 8 * t) (bits src)) =
-    ap (digits 8) ey ∙ digits-num-le 8 (drop (from + 8 * t) (bits src)) (omega (arith, length-drop (from + 8 * t) (bits src), length-bits src)) in
-    let at : 8 * (j + t) + 0 ≡ 8 * j + 8 * t = omega arith in
-    let more : 8 * t + 8 ≡ 8 * (t + 1) = omega arith in
-    then src d₀ dst from (8 * j) (8 * t) 8 (bits (set dst (j + t) y)) (omega arith) (omega arith) inv
-    (bits_put (j + t) 0 8 dst y (digits 8 y) (omega arith) (le_refl 8) (rw (none, append-nil))
-    ∙ ap₂ (λ (p : ℕ) (l : List Bool). take p (bits dst) ++ (l ++ drop (p + 8) (bits dst))) at new)
-    ∙ ap (copied (bits d₀) (8 * j) (drop from (bits src))) more
-
--- m octets of the source in place of as many of the target
-pub octets_put : (src dst x : List ℕ) (i j m : ℕ) → x ≡ between i (i + m) src
-    → bits (put_mid j (j + m - j) dst x) ≡ copied (bits dst) (8 * j) (drop (8 * i) (bits src)) (8 * m)
-octets_put src dst x i j m e =
-    let here : bits x ≡ take (8 * m) (drop (8 * i) (bits src)) =
-    ap bits e ∙ bits-take (i + m - i) (drop i src)
-    ∙ ap₂ (λ (k : ℕ) (l : List Bool). take k l) (let q : 8 * (i + m - i) ≡ 8 * m = omega arith in q) (bits-drop i src) in
+-- m octets, which hold the first bits of s, in place of as many of the target
+pub octets_put : (s : List Bool) (dst x : List ℕ) (j m : ℕ) → bits x ≡ take (8 * m) s → bits (put_mid j (j + m - j) dst x) ≡ copied (bits dst) (8 * j) s (8 * m)
+octets_put s dst x j m e =
     let behind : bits (drop (j + m - j) (drop j dst)) ≡ drop (8 * j + 8 * m) (bits dst) =
     ap bits (drop-drop (j + m - j) j dst) ∙ bits-drop (j + (j + m - j)) dst
     ∙ ap (λ (k : ℕ). drop k (bits dst)) (let q : 8 * (j + (j + m - j)) ≡ 8 * j + 8 * m = omega arith in q) in
     bits-append (take j dst) (x ++ drop (j + m - j) (drop j dst))
-    ∙ ap₂ (λ (l r : List Bool). l ++ r) (bits-take j dst) (bits-append x (drop (j + m - j) (drop j dst)) ∙ ap₂ (λ (l r : List Bool). l ++ r) here behind)
+    ∙ ap₂ (λ (l r : List Bool). l ++ r) (bits-take j dst) (bits-append x (drop (j + m - j) (drop j dst)) ∙ ap₂ (λ (l r : List Bool). l ++ r) e behind)
+
+-- the bits from index p on, by the octet that has it
+pub from_octet : (s : List ℕ) (p : ℕ) → drop (p % 8) (bits (drop (p / 8) s)) ≡ drop p (bits s)
+from_octet s p =
+    let at : 8 * (p / 8) + p % 8 ≡ p = omega arith in
+    ap (drop (p % 8)) (bits-drop (p / 8) s) ∙ drop-drop (p % 8) (8 * (p / 8)) (bits s) ∙ ap (λ (k : ℕ). drop k (bits s)) at
+
+-- the same of what `put_run` passes on: m octets of the target from j on, and the source from the octet that has bit p
+pub passed : (src d : List ℕ) (p j m : ℕ) → j + m ≤ length d
+    → take (8 * length (take (j + m - j) (drop j d))) (drop (p % 8) (bits (take (length src - p / 8) (drop (p / 8) src)))) ≡ take (8 * m) (drop p (bits src))
+passed src d p j m h =
+    let long : length (take (j + m - j) (drop j d)) ≡ m = length-take-le (j + m - j) (drop j d) (omega (arith, length-drop j d)) ∙ omega arith in
+    ap₂ (λ (k : ℕ) (l : List ℕ). take (8 * k) (drop (p % 8) (bits l))) long (take_all (length src - p / 8) (drop (p / 8) src) (omega (arith, length-drop (p / 8) src)))
+    ∙ ap (take (8 * m)) (from_octet src p)
 
 -- `(hi << a) | (lo >> b)` at u8, with a + b = 8
 pub shifted_is : (a b hi lo : ℕ) → b + a ≡ 8 → lo < 2 ^ 8

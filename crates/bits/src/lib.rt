@@ -61,37 +61,19 @@ fn copy_part(src: &[u8], from: usize, k: usize, dst: &mut [u8], at: usize)
     }
 }
 
-// Copies `m` whole octets from octet `i` of `src` to octet `j` of `dst`, one by one.
-pub fn each_whole(src: &[u8], i: usize, m: usize, dst: &mut [u8], j: usize)
-    requires { (i + m ≤ length src.now) × (j + m ≤ length dst.old) }
-    ensures { bits dst.new ≡ copied (bits dst.old) (8 * j) (drop (8 * i) (bits src.now)) (8 * m) }
+// Fills `dst` with octets of bits from bit `a` of `src` on. `pub` for bit_groups too.
+pub fn copy_octets(src: &[u8], a: usize, dst: &mut [u8])
+    requires { (a < 8) × (8 * length dst.old + a ≤ 8 * length src.now) }
+    ensures { bits dst.new ≡ take (8 * length dst.old) (drop a (bits src.now)) }
 {
-    dst[j..j + m].copy_from_slice(&src[i..i + m]);
-}
-
-// Copies `m` octets of bits from bit `a` of octet `i` of `src`, where `a` is not 0, to octet `j` of `dst`, one by one.
-pub fn each_shifted(src: &[u8], i: usize, a: usize, m: usize, dst: &mut [u8], j: usize)
-    requires { (0 < a) × (a < 8) × (i + m < length src.now) × (j + m ≤ length dst.old) }
-    ensures { bits dst.new ≡ copied (bits dst.old) (8 * j) (drop (8 * i + a) (bits src.now)) (8 * m) }
-{
-    for t in 0..m {
-        let hi = src[i + t];
-        let lo = src[i + t + 1];
-        dst[j + t] = (hi << a) | (lo >> (8 - a));
-    }
-}
-
-// Copies `m` octets of bits from bit `from` of `src` to octet `j` of `dst`.
-fn copy_octets(src: &[u8], from: usize, m: usize, dst: &mut [u8], j: usize)
-    requires { (from + 8 * m ≤ 8 * length src.now) × (j + m ≤ length dst.old) }
-    ensures { bits dst.new ≡ copied (bits dst.old) (8 * j) (drop from (bits src.now)) (8 * m) }
-{
-    let i = from / 8;
-    let a = from % 8;
     if a == 0 {
-        each_whole(src, i, m, dst, j);
-    } else {
-        each_shifted(src, i, a, m, dst, j);
+        dst.copy_from_slice(&src[..dst.len()]);
+        return;
+    }
+    for (t, d) in dst.iter_mut().enumerate() {
+        let hi = src[t];
+        let lo = src[t + 1];
+        *d = (hi << a) | (lo >> (8 - a));
     }
 }
 
@@ -119,7 +101,7 @@ fn put_last(src: &[u8], from: usize, k: usize, dst: &mut [u8], j: usize)
 
 // Puts the `n` bits of `src` from index `from` behind the first `at` bits of `dst`, and fills their last octet up with 0. Later octets stay.
 // Up to an octet's border of `dst`, then whole octets, then the rest.
-// `src`, `from` and the count are no struct: a value of it would be made for each of the calls below, and taken apart in the call.
+// `src`, `from` and the count are no struct: each call below has a run of its own, and takes it apart at once.
 pub fn put_run(src: &[u8], from: usize, n: usize, dst: &mut [u8], at: usize)
     requires { (from + n ≤ 8 * length src.now) × (at + n ≤ 8 * length dst.old) × (from + n < 2 ^ 32) × (at + n < 2 ^ 32) }
     ensures { dst.new ≡ pack (take at (bits dst.old) ++ take n (drop from (bits src.now))) ++ drop (octets_for (at + n)) dst.old }
@@ -133,8 +115,9 @@ pub fn put_run(src: &[u8], from: usize, n: usize, dst: &mut [u8], at: usize)
     copy_part(src, from, gap, dst, at);
     let m = (n - gap) / 8;
     let j = (at + gap) / 8;
-    copy_octets(src, from + gap, m, dst, j);
-    put_last(src, from + gap + 8 * m, (n - gap) % 8, dst, j + m);
+    let next = from + gap;
+    copy_octets(&src[next / 8..], next % 8, &mut dst[j..j + m]);
+    put_last(src, next + 8 * m, (n - gap) % 8, dst, j + m);
 }
 
 // Does nothing. Its contract: packing and unpacking undo each other.
