@@ -1,13 +1,8 @@
 -- What is asked where a frame is carried over to another format, and where its core begins an octet there.
-use Rattle.std.specs.Prelude.{◌≡◌, Bool, true, false, ◌≢◌, List, ◌++◌, ℕ, ◌+◌, ◌-◌, ◌*◌, ◌≤◌, length, take, drop, replicate}
+use Rattle.std.specs.Prelude.{◌≡◌, Bool, false, ◌≢◌, List, ◌++◌, ℕ, ◌+◌, ◌-◌, ◌*◌, ◌≤◌, length, take, drop, replicate}
 use Rattle.bits.specs.Bits.{bits, packs}
 use Rattle.definitions.specs.Frames.{Format, if1, if2, storage, Frame, octets}
 use Rattle.definitions.specs.Claims.{Begins}
-
-abbrev pub is_if2 : Format → Bool
-is_if2 if1 = false
-is_if2 if2 = true
-is_if2 storage = false
 
 -- the first octet that holds nothing but core, of types 0 to 9
 abbrev pub core_at : Format → ℕ
@@ -21,9 +16,9 @@ behind if1 core = core
 behind if2 core = drop 3 core
 behind storage core = core
 
--- from bit a of octet i on, the source has the bits w, and then zeros to the end of octet i + c
-pub record Ends (src : List ℕ) (i a c : ℕ) (w : List Bool) (z : ℕ) (r : List Bool) : Type 0 where
-  pub stream : drop (8 * i + a) (bits src) ≡ w ++ (replicate z false ++ r)
+-- from bit a on, the source has the bits w, and then zeros to the end of octet c
+pub record Ends (src : List ℕ) (a c : ℕ) (w : List Bool) (z : ℕ) (r : List Bool) : Type 0 where
+  pub stream : drop a (bits src) ≡ w ++ (replicate z false ++ r)
   pub border : 8 * c + 8 ≡ length w + z + a
 
 -- the source begins with the valid frame x, and the output has room for it in the format g
