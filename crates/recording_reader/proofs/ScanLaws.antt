@@ -6,6 +6,7 @@ use Prim.Native.Nat.{ℕ, suc, ◌+◌, ◌-◌, ◌*◌, ◌<◌, ◌≤◌}
 use native.Mathlib.Omega.{arith}
 use lib.ListN.{length, take, drop, length-append, length-drop, drop_of_length-le}
 use lib.Seq.{drop-drop, take_all}
+use Rattle.std.specs.Prelude.{Result}
 use Rattle.bits.specs.Bits.{bits, Octets}
 use Rattle.bits.proofs.BitLaws.{octets-drop}
 use Rattle.definitions.specs.Outcome.{refused, ok}
@@ -13,7 +14,8 @@ use Rattle.definitions.specs.Frames.{Format, Frame, octets, layout, core_in}
 use Rattle.definitions.specs.Reading.{read_frame}
 use Rattle.definitions.proofs.Frames.{read_known, read-begins}
 use Rattle.frame.specs.Answers.{reading_of}
-use Rattle.frame.specs.declared.Reading.{Reading}
+use Rattle.frame.specs.declared.FrameHeader.{FrameHeader}
+use Rattle.frame.specs.declared.Refusal.{Refusal}
 use Rattle.recordings.specs.Placed.{Placed, refused_at, done, and_then_at}
 use Rattle.recordings.specs.Recordings.{file_header, before, scan, scan_frames, layouts, write_recording}
 use Rattle.recordings.specs.Conversion.{carried, converted}
@@ -21,7 +23,7 @@ use Rattle.recordings.proofs.Scan.{shown-size, scan_step, scan_stop}
 use Rattle.recordings.proofs.Carried.{size-carried}
 
 -- what was read from a part of the recording, which the code takes up to the end
-pub part_read : (f : Format) (s : List ℕ) (at : ℕ) (r : Reading) → let d = take (length s - at) (drop at s) in
+pub part_read : (f : Format) (s : List ℕ) (at : ℕ) (r : Result (FrameHeader × ℕ) Refusal) → let d = take (length s - at) (drop at s) in
     reading_of (λ t. core_in f t (bits d)) r ≡ read_frame f d → reading_of (λ t. core_in f t (bits (drop at s))) r ≡ read_frame f (drop at s)
 part_read f s at r h =
     subst (λ d. reading_of (λ t. core_in f t (bits d)) r ≡ read_frame f d) (take_all (length s - at) (drop at s) (omega (arith, length-drop at s))) h

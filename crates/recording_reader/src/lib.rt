@@ -100,6 +100,7 @@ fn scan_frames(f: Format, g: Format, s: &[u8]) -> Result<Counts, RefusedAt>
 }
 
 // Reads a whole recording: its frames, and the octets that a conversion to `g` writes.
+#[tactic(auto, unfolding(recordings::specs::Recordings::read_recording))]
 pub fn read_all(f: Format, g: Format, s: &[u8]) -> Result<Counts, RefusedAt>
     ensures { (r : ℕ) → counts_of result ≡ and_then_at (read_recording (format_of f) s.now) (λ xs. done (length xs, length (converted (format_of f) (format_of g) r xs))) }
 {
@@ -113,6 +114,7 @@ pub fn read_all(f: Format, g: Format, s: &[u8]) -> Result<Counts, RefusedAt>
 }
 
 // Validates a recording: how many frames it has, or the refusal with its place. An entry.
+#[tactic(auto, unfolding(recordings::specs::Recordings::validate_call))]
 pub fn validate(format: u64, s: &[u8]) -> Result<Counts, RefusedAt>
     ensures { counts_of result ≡ validate_call format s.now }
 {

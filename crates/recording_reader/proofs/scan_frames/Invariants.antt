@@ -6,7 +6,7 @@ use Rattle.recording_reader.proofs.ScanLaws.{Counted}
 use Rattle.recording_reader.proofs.scan_frames.Given as goal
 
 abbrev pub invariant-loop-at : goal.invariant-loop-at
-invariant-loop-at l = Counted (format_of l.f) (format_of l.g) l.s l.at l.k l.need
+invariant-loop-at l = Counted (format_of l.f) (format_of l.g) l.s l.at l.counts.frames l.counts.octets
 
 abbrev pub decreases-loop-at : goal.decreases-loop-at
 decreases-loop-at l = length l.s - l.at

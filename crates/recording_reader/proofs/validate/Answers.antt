@@ -1,25 +1,27 @@
 -- `recording_reader::validate` meets its contract: the format is judged, then the recording. Assumes nothing.
-use mathlib.Core.Path.{sym, ap, ◌∙◌}
+use mathlib.Core.Path.{◌≡◌, ap, ◌∙◌}
+use Rattle.std.proofs.Common.{rules}
+use Rattle.definitions.specs.Outcome.{ok}
+use Rattle.definitions.specs.Reading.{format_numbered}
+use Rattle.recordings.specs.Recordings.{validate_call, read_recording}
 use Rattle.frame.specs.Answers.{format_of}
 use Rattle.recording_reader.specs.Answers.{counts_of}
-use Rattle.recording_reader.proofs.CallLaws.{found_is, found_none, unknown_format, refused_recording, valid_recording}
+use Rattle.recording_reader.proofs.CallLaws.{refused_frames, counted_frames}
 use Rattle.recording_reader.proofs.validate.Goals as goal
 
-pub returns-in_default : goal.returns-in_default
-returns-in_default c =
-    let n = c.format_numbered in unknown_format c.args.format c.args.s.now (found_none c.args.format n.result n.ensures c.in_default.is)
-
-pub returns-in_default-a : goal.returns-in_default-a
-returns-in_default-a c =
+pub returns-in_err-counts : goal.returns-in_err-counts
+unfolding validate_call
+returns-in_err-counts c =
     let a = c.args in
-    let n = c.format_numbered in
-    let e = c.in_default-a in
-    ap counts_of e.is
-    ∙ refused_recording a.format a.s.now (format_of c.in-Is.f) _ _ _ (found_is a.format n.result c.in-Is.f n.ensures c.in-Is.is) (sym (ap counts_of e.is) ∙ c.read_all-a.ensures 0)
+    let f = format_of c.in_ok-f.f in
+    let known : format_numbered a.format ≡ ok f = search rules in
+    let is : c.from_residual-in_err-counts.result ≡ c.read_all.result = search rules in
+    rw known (ap counts_of is ∙ refused_frames f (read_recording f a.s.now) c.read_all.result _ c.in_err-counts.was (c.read_all.ensures 0))
 
 pub returns : goal.returns
+unfolding validate_call
 returns c =
     let a = c.args in
-    let n = c.format_numbered in
-    let e = c.in-Done in
-    valid_recording a.format a.s.now (format_of c.in-Is.f) _ _ (found_is a.format n.result c.in-Is.f n.ensures c.in-Is.is) (sym (ap counts_of e.is) ∙ c.read_all-a.ensures 0)
+    let f = format_of c.in_ok-f.f in
+    let known : format_numbered a.format ≡ ok f = search rules in
+    rw known (counted_frames f (read_recording f a.s.now) c.read_all.result c.in_ok-counts.counts c.in_ok-counts.was (c.read_all.ensures 0))
