@@ -4,6 +4,7 @@ use mathlib.Core.Bool.{Bool, true, false, ◌&&◌, ◌||◌, cond}
 use mathlib.Core.List.{List, [], ◌∷◌, ◌++◌}
 use Prim.Native.Nat.{ℕ, ◌+◌, ◌-◌, ◌*◌, ◌<◌, ◌≤◌}
 use native.Mathlib.Omega.{arith}
+use Rattle.std.proofs.Common.{Result, Ok, Err}
 use lib.Dec.{eqb, leb}
 use lib.ListN.{length, take, drop, length-append}
 use lib.Seq.{length-take-le}
@@ -23,38 +24,16 @@ use Rattle.links.specs.Sets.{link_type, combination_good, combinations, by_rfci,
 use Rattle.links.specs.Calls.{subflow_good, subflows_good, joined, up_frame, no_data_bad, written, up_call}
 use Rattle.links.proofs.SetLaws.{combination-good, lookup-found}
 use Rattle.uplink_judge.specs.Judging.{picked, HasCore, Judges}
-use Rattle.uplink_judge.specs.declared.Judged.TheVariants.{Core, Empty, Refused as Refuses}
-
--- ---- small choices
-
-pub chosen : (b : Bool) (x y : ℕ) → b ≡ true → x ≡ cond b x y
-chosen b x y e = rw e
-
-pub other : (b : Bool) (x y : ℕ) → b ≡ false → y ≡ cond b x y
-other b x y e = rw e
+use Rattle.uplink_judge.specs.declared.Judged.{Judged}
+use Rattle.uplink_judge.specs.declared.Judged.TheVariants.{Core, Empty}
 
 -- ---- sub-flows
 
 module _ (n : ℕ) (s : List ℕ) where
-  pub octets_wrong : (length s ≡ octets_for n → ⊥) → false ≡ subflow_good n s
-  octets_wrong h = rw (ne_eqb (length s) (octets_for n) h)
-
-  pub fill_tells : length s ≡ octets_for n → clear (8 * length s - n) (drop n (bits s)) ≡ subflow_good n s
-  fill_tells e = sym (ap (λ b. b && clear (8 * length s - n) (drop n (bits s))) (eq-eqb (length s) (octets_for n) e))
-
   there : subflow_good n s ≡ true → n ≤ 8 * length s
   there h = omega (arith, eqb-true (length s) (octets_for n) (and_left _ _ h))
 
 module _ (c : Combination) (s₁ s₂ s₃ : List ℕ) where
-  pub first_wrong : subflow_good c.size1 s₁ ≡ false → false ≡ subflows_good c s₁ s₂ s₃
-  first_wrong w = rw w
-
-  pub second_wrong : subflow_good c.size1 s₁ ≡ true → subflow_good c.size2 s₂ ≡ false → false ≡ subflows_good c s₁ s₂ s₃
-  second_wrong g w = rw (g, w)
-
-  pub third_tells : subflow_good c.size1 s₁ ≡ true → subflow_good c.size2 s₂ ≡ true → subflow_good c.size3 s₃ ≡ subflows_good c s₁ s₂ s₃
-  third_tells g h = rw (g, h)
-
   module _ (good : subflows_good c s₁ s₂ s₃ ≡ true) where
     rest : (subflow_good c.size2 s₂ && subflow_good c.size3 s₃) ≡ true
     rest = and_right (subflow_good c.size1 s₁) _ good
@@ -105,30 +84,6 @@ module _ (c : Combination) (s₁ s₂ s₃ : List ℕ) (g : combination_good c �
 
 -- ---- the tests in front of the sub-flows
 
-module _ (l : Link) (fqc rfci : ℕ) where
-  pub fqc_high : 3 < fqc → refused 11 ≡ picked l fqc rfci
-  unfolding picked
-  fqc_high h = rw (lt-leb fqc 3 h)
-
-  module _ (hq : fqc ≤ 3) where
-    pub rfci_high : 63 < rfci → refused 11 ≡ picked l fqc rfci
-    unfolding picked
-    rfci_high h = rw (le-leb fqc 3 hq, lt-leb rfci 63 h)
-
-    module _ (hi : rfci ≤ 63) where
-      pub no_set : l.set.count ≡ 0 → refused 14 ≡ picked l fqc rfci
-      unfolding picked
-      no_set z = rw (le-leb fqc 3 hq, le-leb rfci 63 hi, lt-leb 1 l.set.count (omega arith))
-
-      module _ (some : l.set.count ≡ 0 → ⊥) where
-        pub fqc_reserved : fqc ≡ 3 → refused 13 ≡ picked l fqc rfci
-        unfolding picked
-        fqc_reserved e = rw (le-leb fqc 3 hq, le-leb rfci 63 hi, le-leb 1 l.set.count (omega arith), lt-leb fqc 2 (omega arith))
-
-        pub looks_up : (fqc ≡ 3 → ⊥) → lookup by_rfci rfci (combinations l.set) ≡ picked l fqc rfci
-        unfolding picked
-        looks_up n = rw (le-leb fqc 3 hq, le-leb rfci 63 hi, le-leb 1 l.set.count (omega arith), le-leb fqc 2 (omega arith))
-
 -- what was picked was looked up
 pub picked-good : (l : Link) (fqc rfci : ℕ) (c : Combination) → picked l fqc rfci ≡ ok c → combination_good c ≡ true
 unfolding picked
@@ -158,44 +113,44 @@ up-picked l fqc rfci s₁ s₂ s₃ room =
     through true true false o next = refl
 
 module _ (l : Link) (fqc rfci : ℕ) (s₁ s₂ s₃ : List ℕ) where
-  pub judges-refused : (e : Refusal) → refused (number_of e) ≡ picked l fqc rfci → Judges l fqc rfci s₁ s₂ s₃ (Refuses e)
-  judges-refused e h = record {
-    call = λ room. sym (up-picked l fqc rfci s₁ s₂ s₃ room ∙ rw (← h));
-    core = λ c z. absurd (let y : ◌≡◌ {A = ℕ} 0 1 = cc in omega arith);
-    quality = λ q z. absurd (let y : ◌≡◌ {A = ℕ} 0 1 = cc in omega arith);
+  pub judges-refused : (r : Result Judged Refusal) (e : Refusal) → r ≡ Err e → refused (number_of e) ≡ picked l fqc rfci → Judges l fqc rfci s₁ s₂ s₃ r
+  judges-refused r e i h = record {
+    call = λ room. sym (up-picked l fqc rfci s₁ s₂ s₃ room ∙ rw (← h, i));
+    core = λ c z. absurd (let y = sym i ∙ z in cc);
+    quality = λ q z. absurd (let y = sym i ∙ z in cc);
   }
 
   module _ (c : Combination) (h : ok c ≡ picked l fqc rfci) where
-    pub judges_bad : fqc ≡ 1 → Judges l fqc rfci s₁ s₂ s₃ (Empty 0)
+    pub judges_bad : fqc ≡ 1 → Judges l fqc rfci s₁ s₂ s₃ (Ok (Empty 0))
     judges_bad e = record {
       call = λ room. sym (up-picked l fqc rfci s₁ s₂ s₃ room ∙ rw (← h, eq-eqb fqc 1 e));
-      core = λ c z. absurd (let y : ◌≡◌ {A = ℕ} 0 1 = cc in omega arith);
+      core = λ c z. absurd (cc);
       quality = λ q z. let y : 0 ≡ q = cc in omega arith;
     }
 
     module _ (n : fqc ≡ 1 → ⊥) where
-      pub judges-subflows : subflows_good c s₁ s₂ s₃ ≡ false → Judges l fqc rfci s₁ s₂ s₃ (Refuses SubflowBuffer)
+      pub judges-subflows : subflows_good c s₁ s₂ s₃ ≡ false → Judges l fqc rfci s₁ s₂ s₃ (Err SubflowBuffer)
       judges-subflows w = record {
         call = λ room. sym (up-picked l fqc rfci s₁ s₂ s₃ room ∙ rw (← h, ne_eqb fqc 1 n, w));
-        core = λ c z. absurd (let y : ◌≡◌ {A = ℕ} 0 1 = cc in omega arith);
-        quality = λ q z. absurd (let y : ◌≡◌ {A = ℕ} 0 1 = cc in omega arith);
+        core = λ c z. absurd (cc);
+        quality = λ q z. absurd (cc);
       }
 
       module _ (w : subflows_good c s₁ s₂ s₃ ≡ true) where
-        pub judges-empty : (q : ℕ) → 9 < c.frame_type → q ≡ cond (eqb fqc 0) 1 0 → q < 2 → Judges l fqc rfci s₁ s₂ s₃ (Empty q)
+        pub judges-empty : (q : ℕ) → 9 < c.frame_type → q ≡ cond (eqb fqc 0) 1 0 → q < 2 → Judges l fqc rfci s₁ s₂ s₃ (Ok (Empty q))
         judges-empty q t e b = record {
           call = λ room.
               ap (λ x. written x room) (frame-empty c s₁ s₂ s₃ (picked-good l fqc rfci c (sym h)) t w l.request fqc q e)
               ∙ sym (up-picked l fqc rfci s₁ s₂ s₃ room ∙ rw (← h, ne_eqb fqc 1 n, w));
-          core = λ c z. absurd (let y : ◌≡◌ {A = ℕ} 0 1 = cc in omega arith);
+          core = λ c z. absurd (cc);
           quality = λ p z. let y : q ≡ p = cc in omega arith;
         }
 
-        pub judges-core : c.frame_type ≤ 9 → Judges l fqc rfci s₁ s₂ s₃ (Core c)
+        pub judges-core : c.frame_type ≤ 9 → Judges l fqc rfci s₁ s₂ s₃ (Ok (Core c))
         judges-core t = record {
           call = λ room. sym (up-picked l fqc rfci s₁ s₂ s₃ room ∙ rw (← h, ne_eqb fqc 1 n, w));
           core = λ d z.
               let y : c ≡ d = cc in
               subst (λ d. HasCore d s₁ s₂ s₃) y (record { good = picked-good l fqc rfci c (sym h); type = t; flows = w });
-          quality = λ q z. absurd (let y : ◌≡◌ {A = ℕ} 0 1 = cc in omega arith);
+          quality = λ q z. absurd (cc);
         }

@@ -54,6 +54,7 @@ pub fn quality_of(fqc: u64) -> u8
 }
 
 // The combination of an RFCI, or why Up is refused before a sub-flow is read.
+#[tactic(auto, using(std::proofs::lemmas::Bool::Decides::nat_tests), unfolding(crate::specs::Judging::picked))]
 fn pick(link: &Link, fqc: u64, rfci: u64) -> Result<Combination, Refusal>
     ensures { picked_of result ≡ picked link.now fqc rfci }
 {
