@@ -1,3 +1,2 @@
 pub mod StateLaws
-pub mod GatherLaws
-pub mod AssignLaws
+pub mod RowLaws

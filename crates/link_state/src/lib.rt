@@ -1,18 +1,18 @@
 // The link's state: made, given a set, released and given a request. `fresh`, `assign`, `release` and `rate_command` are entries.
 #![tactic(auto)]
 
-ghost use Rattle.std.specs.Prelude.{◌≡◌, length};
+ghost use Rattle.std.specs.Prelude.{◌≡◌};
 ghost use Rattle.definitions.specs.Outcome.{ok, unless};
-ghost use Rattle.links.specs.Sets.{combination_good, apart, set_good, rfc_set};
-ghost use Rattle.links.specs.Calls.{fresh_link, in_fives};
+ghost use Rattle.links.specs.Sets.{combination_good, apart};
+ghost use Rattle.links.specs.Calls.{fresh_link};
 ghost use Rattle.links.specs.History as call;
 ghost use Rattle.combinations.specs.Answers.{found_of};
-ghost use Rattle.link_state.specs.Answers.{moved_of, five};
+ghost use Rattle.link_state.specs.Answers.{moved_of, five, set_of};
 
 use combinations::{HIGHEST_RFCI, NO_DATA, combination_good};
 use frame::table::core_bits;
 use frame::{HIGHEST_MODE, Refusal};
-use links::{Combination, Link, NO_REQUEST, RfcSet};
+use links::{Combination, Link, NO_REQUEST, PLACES, RfcSet};
 
 // How many numbers a combination is written by.
 const NUMBERS: usize = 5;
@@ -20,13 +20,11 @@ const NUMBERS: usize = 5;
 // ---- a set from numbers
 
 // The combination that five numbers write, if it is a good one. No size is above K, so that their sum is small.
-fn combination_in(row: &[u64]) -> Option<Combination>
-    requires { length row.now ≡ 5 }
+#[tactic(auto, using(std::proofs::lemmas::Bool::Decides::nat_tests), unfolding(links::specs::Sets::combination_good))]
+fn combination_in(row: &[u64; 5]) -> Option<Combination>
     ensures { found_of 11 result ≡ unless 11 (combination_good (five row.now)) (ok (five row.now)) }
 {
-    let &[rfci, t, size1, size2, size3] = row else {
-        return None;
-    };
+    let [rfci, t, size1, size2, size3] = *row;
     if HIGHEST_RFCI < rfci || NO_DATA < t {
         return None;
     }
@@ -53,23 +51,24 @@ fn is_apart(c: Combination, others: &[Combination]) -> bool
         .all(|d| c.rfci != d.rfci && c.frame_type != d.frame_type)
 }
 
-// The set of the combinations that numbers write, if they are 1 to 11 good ones.
-fn set_in(rows: &[u64]) -> Option<RfcSet>
+// The set of the combinations that numbers write, five for each, if it is a good one.
+fn set_in(numbers: &[u64]) -> Option<RfcSet>
+    ensures { result ≡ set_of numbers.now }
 {
-    if rows.len() % NUMBERS != 0 {
+    let (rows, rest) = numbers.as_chunks::<NUMBERS>();
+    if !rest.is_empty() || rows.is_empty() || PLACES < rows.len() {
         return None;
     }
-    let mut set = RfcSet::default();
-    for row in rows.chunks_exact(NUMBERS) {
-        let n = set.count as usize;
+    let mut places = [Combination::default(); PLACES];
+    for (n, row) in rows.iter().enumerate() {
         let c = combination_in(row)?;
-        if !is_apart(c, set.places.get(..n)?) {
+        if !is_apart(c, &places[..n]) {
             return None;
         }
-        *set.places.get_mut(n)? = c;
-        set.count += 1;
+        places[n] = c;
     }
-    if set.count == 0 { None } else { Some(set) }
+    let count = rows.len() as u32;
+    Some(RfcSet { places, count })
 }
 
 // ---- the calls
@@ -86,6 +85,7 @@ pub fn fresh() -> Link
 }
 
 // Stores the combinations that `rows` writes, five numbers for each: RFCI, type and three sizes. An entry.
+#[tactic(auto, using(std::proofs::lemmas::Bool::Decides::nat_tests), unfolding(links::specs::Calls::assign_call))]
 pub fn assign(link: Link, rows: &[u64]) -> Result<Link, Refusal>
     ensures { moved_of link result ≡ call.link_step link (call.assign rows.now) }
 {
@@ -97,6 +97,7 @@ pub fn assign(link: Link, rows: &[u64]) -> Result<Link, Refusal>
 }
 
 // Back to no set; the two requests stay. An entry.
+#[tactic(auto, using(std::proofs::lemmas::Bool::Decides::nat_tests), unfolding(links::specs::Calls::release_call))]
 pub fn release(link: Link) -> Result<Link, Refusal>
     ensures { moved_of link result ≡ call.link_step link call.release }
 {
@@ -108,6 +109,7 @@ pub fn release(link: Link) -> Result<Link, Refusal>
 }
 
 // Stores a request, with a set or without. An entry.
+#[tactic(auto, using(std::proofs::lemmas::Bool::Decides::nat_tests), unfolding(links::specs::Calls::rate_call))]
 pub fn rate_command(link: Link, mode: u64) -> Result<Link, Refusal>
     ensures { moved_of link result ≡ call.link_step link (call.rate mode) }
 {
