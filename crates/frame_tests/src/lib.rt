@@ -39,42 +39,11 @@ pub fn quality_in(f: Format, s: &[u8]) -> u8
     (s[0] >> (3 - spare_before(f))) & 1
 }
 
-// The mode that stands at bit `from`, 0 where the frame carries none.
-fn mode_in(f: Format, s: &[u8], t: usize, from: usize) -> u8
-    requires { (known t ≡ true) × (octets (format_of f) t ≤ length s.now) × (from < 16) }
-    ensures { result ≡ cond (carries_modes (format_of f) t) (num 4 (drop from (bits s.now))) 0 }
-{
-    if carries_modes(f, t) {
-        return bits::field_at(s, from, 4);
-    }
-    0
-}
-
-// The fields but for the core.
-pub fn header_in(f: Format, s: &[u8], t: u8) -> FrameHeader
-    requires { (t ≡ type_in (format_of f) (bits s.now)) × (known t ≡ true) × (octets (format_of f) t ≤ length s.now) }
-    ensures { frame_with result (core_in (format_of f) t (bits s.now)) ≡ frame_in (format_of f) (bits s.now) }
-{
-    let k = t as usize;
-    let quality = quality_in(f, s);
-    let indication = mode_in(f, s, k, INDICATION_AT);
-    let request = mode_in(f, s, k, REQUEST_AT);
-    FrameHeader {
-        frame_type: t,
-        quality,
-        indication,
-        request,
-    }
-}
-
 // Nothing stands behind a single frame.
 pub fn ends(single: bool, len: usize, n: usize) -> bool
     ensures { result ≡ (not single || leb len n) }
 {
-    if single {
-        return len <= n;
-    }
-    true
+    !single || len <= n
 }
 
 // No spare bit of the first octet is 1.
@@ -87,25 +56,6 @@ fn first_clear(f: Format, s: &[u8]) -> bool
         Format::If2 => true,
         Format::Storage => s[0] & 0x83 == 0,
     }
-}
-
-// The filling bits of a frame of `n` octets are 0.
-fn fill_clear(f: Format, s: &[u8], t: usize, n: usize) -> bool
-    requires { (known t ≡ true) × (n ≡ octets (format_of f) t) × (n ≤ length s.now) }
-    ensures { result ≡ fill_clear (format_of f) t (bits s.now) }
-{
-    bits::low_bits(s, n, fill_bits(f, t)) == 0
-}
-
-// Refusal 5's test.
-pub fn spare_clear(f: Format, s: &[u8], t: usize, n: usize) -> bool
-    requires { (t ≡ type_in (format_of f) (bits s.now)) × (known t ≡ true) × (n ≡ octets (format_of f) t) × (n ≤ length s.now) }
-    ensures { result ≡ spare_clear (format_of f) (bits s.now) }
-{
-    if first_clear(f, s) {
-        return fill_clear(f, s, t, n);
-    }
-    false
 }
 
 // The mode of a SID frame, d(36..39).
@@ -130,25 +80,71 @@ pub fn header_good(f: Format, s: &[u8], h: FrameHeader) -> bool
     fields_good(f, t, i, r, 0)
 }
 
-// Refusal 7's test.
-pub fn crc_good(f: Format, s: &[u8], t: usize) -> bool
-    requires { (t ≡ type_in (format_of f) (bits s.now)) × (known t ≡ true) × (octets (format_of f) t ≤ length s.now) }
-    ensures { result ≡ crc_good (format_of f) (bits s.now) }
-{
-    if carries_modes(f, t) {
-        let core = &s[IF1_CORE_AT..];
-        return bits::field_at(s, CRC_AT, 8) == parity::crc_of(core, class_a(t));
-    }
-    true
-}
-
-// Of a SID frame the mode is at most 8.
+// Of a SID frame the mode is at most 8. Its octets are all that it asks, and so of `header_good`.
 pub fn sid_fine(f: Format, s: &[u8], t: usize) -> bool
     requires { octets (format_of f) t ≤ length s.now }
     ensures { result ≡ true → t ≡ 9 → num 4 (drop 36 (core_in (format_of f) t (bits s.now))) ≤ 8 }
 {
-    if t != SID {
-        return true;
+    t != SID || sid_mode(f, s) <= HIGHEST_MODE
+}
+
+// A frame that stands whole at the start of the octets `s`: of a known type, and with all its octets there.
+#[derive(Clone, Copy)]
+pub struct FrameOctets<'a> {
+    pub format: Format,
+    pub s: &'a [u8],
+    pub frame_type: u8,
+    pub size: usize,
+    ghost type_is: { frame_type ≡ type_in (format_of format) (bits s.now) },
+    ghost type_known: { known frame_type ≡ true },
+    ghost size_is: { size ≡ octets (format_of format) frame_type },
+    ghost enough: { size ≤ length s.now },
+}
+
+impl FrameOctets<'_> {
+    // The filling bits are 0.
+    fn fill_clear(&self) -> bool
+        ensures { result ≡ fill_clear (format_of self.now.format) self.now.frame_type (bits self.now.s.now) }
+    {
+        bits::low_bits(self.s, self.size, fill_bits(self.format, usize::from(self.frame_type))) == 0
     }
-    sid_mode(f, s) <= HIGHEST_MODE
+
+    // Refusal 5's test.
+    pub fn spare_clear(&self) -> bool
+        ensures { result ≡ spare_clear (format_of self.now.format) (bits self.now.s.now) }
+    {
+        first_clear(self.format, self.s) && self.fill_clear()
+    }
+
+    // The mode that stands at bit `from`, 0 where the frame carries none.
+    fn mode_in(&self, from: usize) -> u8
+        requires { from < 16 }
+        ensures { result ≡ cond (carries_modes (format_of self.now.format) self.now.frame_type) (num 4 (drop from (bits self.now.s.now))) 0 }
+    {
+        if carries_modes(self.format, usize::from(self.frame_type)) {
+            bits::field_at(self.s, from, 4)
+        } else {
+            0
+        }
+    }
+
+    // The fields but for the core.
+    pub fn header(&self) -> FrameHeader
+        ensures { frame_with result (core_in (format_of self.now.format) self.now.frame_type (bits self.now.s.now)) ≡ frame_in (format_of self.now.format) (bits self.now.s.now) }
+    {
+        FrameHeader {
+            frame_type: self.frame_type,
+            quality: quality_in(self.format, self.s),
+            indication: self.mode_in(INDICATION_AT),
+            request: self.mode_in(REQUEST_AT),
+        }
+    }
+
+    // Refusal 7's test.
+    pub fn crc_good(&self) -> bool
+        ensures { result ≡ crc_good (format_of self.now.format) (bits self.now.s.now) }
+    {
+        let t = usize::from(self.frame_type);
+        !carries_modes(self.format, t) || bits::field_at(self.s, CRC_AT, 8) == parity::crc_of(&self.s[IF1_CORE_AT..], class_a(t))
+    }
 }

@@ -16,8 +16,8 @@ pub sid_mode-requires : goal.sid_mode-requires
 sid_mode-requires c =
     subst (λ t. octets (format_of c.args.f) t ≤ length c.args.s.now) c.if-t-ne-SID.false c.requires
 
-pub returns : goal.returns
-returns c =
+pub returns-else-t-ne-SID : goal.returns-else-t-ne-SID
+returns-else-t-ne-SID c =
     λ r e.
     let a = c.args in
     subst (λ m. m ≤ 8) (c.sid_mode.ensures ∙ ap (λ t. num 4 (drop 36 (core_in (format_of a.f) t (bits a.s.now)))) (sym e)) (leb-true _ _ r)
