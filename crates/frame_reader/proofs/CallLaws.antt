@@ -1,30 +1,26 @@
 -- A call that reads one frame: each step hands on what the definition's next step starts from. Assumes nothing.
-use mathlib.Core.Path.{◌≡◌, refl, sym, ap, ap₂, ◌∙◌, subst}
+use mathlib.Core.Path.{◌≡◌, sym, ap, ap₂, ◌∙◌, subst}
 use mathlib.Core.Bool.{Bool, true}
 use mathlib.Core.List.{List, ◌++◌}
-use Prim.Native.Nat.{ℕ, ◌+◌, ◌/◌, ◌<◌, ◌≤◌}
+use Prim.Native.Nat.{ℕ, ◌+◌, ◌/◌, ◌≤◌}
 use native.Mathlib.Nat.{zero-add}
 use lib.ListN.{length, take, drop}
-use borrow.Author.Tests.{le-leb, lt-leb}
+use borrow.Author.Tests.{le-leb}
 use Rattle.bits.specs.Bits.{bits, pack, octets_for}
 use Rattle.bits.proofs.BitLaws.{length-pack, take_packed}
 use Rattle.definitions.specs.Outcome.{Outcome, refused, ok, unless, and_then}
 use Rattle.definitions.specs.Frames.{Frame, known, octets, core_bits, core_octets, core_in}
 use Rattle.definitions.specs.Reading.{read_with, format_numbered, into_buffer, read_call, core_after, buffer_core}
 use Rattle.definitions.proofs.Frames.{read_known}
-use Rattle.frame.specs.Answers.{format_of, number_of, frame_with, reading_of, found_of}
+use Rattle.frame.specs.Answers.{format_of, number_of, frame_with, reading_of}
 use Rattle.frame_reader.specs.Buffer.{IntoBuffer}
 use Rattle.frame.specs.declared.Refusal.{Refusal}
-use Rattle.frame.specs.declared.Refusal.TheVariants.{OutputShort, ArgumentRange}
 use Rattle.frame.specs.declared.FrameHeader.{FrameHeader}
 use Rattle.frame.specs.declared.Format.{Format as CodeFormat}
-use Rattle.frame.specs.declared.FormatFound.{FormatFound}
-use Rattle.frame.specs.declared.FormatFound.TheVariants.{Is, Unknown}
-use Rattle.frame.specs.declared.Reading.{Reading}
-use Rattle.frame.specs.declared.Reading.TheVariants.{Refused, Frame as FrameRead}
+use Rattle.std.specs.Prelude.{Result, Ok, Err}
 
 -- a refused call leaves the buffer
-pub refused-call : (o : Outcome (Frame × ℕ)) (d : List ℕ) (r : Reading) (e : Refusal) → r ≡ Refused e → refused (number_of e) ≡ o → IntoBuffer o d d r
+pub refused-call : (o : Outcome (Frame × ℕ)) (d : List ℕ) (r : Result (FrameHeader × ℕ) Refusal) (e : Refusal) → r ≡ Err e → refused (number_of e) ≡ o → IntoBuffer o d d r
 refused-call o d r e er h = record { answer = ap (reading_of (buffer_core d)) er ∙ h; buffer = ap (λ o. core_after o d) h }
 
 -- `core_out`
@@ -32,14 +28,8 @@ module _ (h : FrameHeader) (core : List Bool) (d₀ : List ℕ) (k : ℕ) (ek : 
   size : core_octets h.frame_type ≡ (k + 7) / 8
   size = ap octets_for (sym ek)
 
-  pub no_room : length d₀ < (k + 7) / 8 → IntoBuffer (into_buffer (frame_with h core) (length d₀)) d₀ d₀ (Refused OutputShort)
-  no_room l =
-      let b = lt-leb (core_octets h.frame_type) (length d₀) (subst (λ m. length d₀ < m) (sym size) l) in
-      refused-call (into_buffer (frame_with h core) (length d₀)) d₀ (Refused OutputShort) OutputShort refl
-      (sym (ap (λ b. unless 10 b (ok (frame_with h core, core_octets h.frame_type))) b))
-
   pub core-written : (d : List ℕ) → (k + 7) / 8 ≤ length d₀ → length core ≡ k → d ≡ pack core ++ drop (octets_for (0 + k)) d₀
-      → IntoBuffer (into_buffer (frame_with h core) (length d₀)) d₀ d (FrameRead h ((k + 7) / 8))
+      → IntoBuffer (into_buffer (frame_with h core) (length d₀)) d₀ d (Ok (h, (k + 7) / 8))
   core-written d l lc e =
       let x = frame_with h core in
       let b = le-leb (core_octets h.frame_type) (length d₀) (subst (λ m. m ≤ length d₀) (sym size) l) in
@@ -53,34 +43,31 @@ module _ (h : FrameHeader) (core : List Bool) (d₀ : List ℕ) (k : ℕ) (ek : 
       }
 
 -- `read_frame`
-module _ (format : ℕ) (s d₀ : List ℕ) (found : FormatFound) (ef : found_of found ≡ format_numbered format) where
-  pub unknown_format : found ≡ Unknown → IntoBuffer (read_call format s (length d₀)) d₀ d₀ (Refused ArgumentRange)
+module _ (format : ℕ) (s d₀ : List ℕ) where
+  pub unknown_format : (r : Result (FrameHeader × ℕ) Refusal) (e : Refusal) → r ≡ Err e → refused (number_of e) ≡ format_numbered format
+      → IntoBuffer (read_call format s (length d₀)) d₀ d₀ r
   unfolding read_call
-  unknown_format u =
-      refused-call _ d₀ (Refused ArgumentRange) ArgumentRange refl
-      (ap (λ o. and_then o (λ f. and_then (read_with true f s) (λ y. into_buffer y.0 (length d₀)))) (sym (ap found_of u) ∙ ef))
+  unknown_format r e re u =
+      refused-call _ d₀ r e re
+      (ap (λ o. and_then o (λ f. and_then (read_with true f s) (λ y. into_buffer y.0 (length d₀)))) u)
 
-  module _ (f : CodeFormat) (i : found ≡ Is f) (r : Reading)
-      (er : reading_of (λ t. core_in (format_of f) t (bits s)) r ≡ read_with true (format_of f) s) where
+  module _ (f : CodeFormat) (ef : ok (format_of f) ≡ format_numbered format) where
     -- the call, once the format is known
     call_is : read_call format s (length d₀) ≡ and_then (read_with true (format_of f) s) (λ y. into_buffer y.0 (length d₀))
     unfolding read_call
-    call_is = ap (λ o. and_then o (λ f. and_then (read_with true f s) (λ y. into_buffer y.0 (length d₀)))) (sym ef ∙ ap found_of i)
+    call_is = ap (λ o. and_then o (λ f. and_then (read_with true f s) (λ y. into_buffer y.0 (length d₀)))) (sym ef)
 
-    pub refused-frame : (e : Refusal) → r ≡ Refused e → IntoBuffer (read_call format s (length d₀)) d₀ d₀ r
-    refused-frame e ee =
-        refused-call (read_call format s (length d₀)) d₀ r e ee
-        (sym (call_is ∙ ap (λ o. and_then o (λ y. into_buffer y.0 (length d₀))) (sym er ∙ ap (reading_of (λ t. core_in (format_of f) t (bits s))) ee)))
+    pub refused-frame : (r : Result (FrameHeader × ℕ) Refusal) (e : Refusal) → r ≡ Err e → refused (number_of e) ≡ read_with true (format_of f) s
+        → IntoBuffer (read_call format s (length d₀)) d₀ d₀ r
+    refused-frame r e re er =
+        refused-call (read_call format s (length d₀)) d₀ r e re (sym (call_is ∙ ap (λ o. and_then o (λ y. into_buffer y.0 (length d₀))) (sym er)))
 
-    module _ (h : FrameHeader) (n : ℕ) (eh : r ≡ FrameRead h n) where
-      frame-there : read_with true (format_of f) s ≡ ok (frame_with h (core_in (format_of f) h.frame_type (bits s)), n)
-      frame-there = sym er ∙ ap (reading_of (λ t. core_in (format_of f) t (bits s))) eh
-
+    module _ (h : FrameHeader) (n : ℕ) (frame-there : ok (frame_with h (core_in (format_of f) h.frame_type (bits s)), n) ≡ read_with true (format_of f) s) where
       pub known-there : (known h.frame_type ≡ true) × (octets (format_of f) h.frame_type ≤ length s)
-      known-there = let k = read_known true (format_of f) s _ n frame-there in (k.0, k.1)
+      known-there = let k = read_known true (format_of f) s _ n (sym frame-there) in (k.0, k.1)
 
-      pub frame-out : (d : List ℕ) (a : Reading)
+      pub frame-out : (d : List ℕ) (a : Result (FrameHeader × ℕ) Refusal)
           → IntoBuffer (into_buffer (frame_with h (core_in (format_of f) h.frame_type (bits s))) (length d₀)) d₀ d a
           → IntoBuffer (read_call format s (length d₀)) d₀ d a
       frame-out d a p =
-          subst (λ o. IntoBuffer o d₀ d a) (sym (call_is ∙ ap (λ o. and_then o (λ y. into_buffer y.0 (length d₀))) frame-there)) p
+          subst (λ o. IntoBuffer o d₀ d a) (sym (call_is ∙ ap (λ o. and_then o (λ y. into_buffer y.0 (length d₀))) (sym frame-there))) p

@@ -11,9 +11,11 @@ use Rattle.bits.specs.Bits.{num, bits}
 use Rattle.definitions.specs.Outcome.{refused, ok}
 use Rattle.definitions.specs.Frames.{Format, known, octets, type_in, quality_in, core_in, frame_in, spare_clear, fields_good, crc_good}
 use Rattle.definitions.specs.Reading.{read_with}
-use Rattle.frame.specs.Answers.{frame_with}
+use Rattle.frame.specs.Answers.{format_of, frame_with}
 use Rattle.frame.specs.declared.FrameHeader.{FrameHeader}
+use Rattle.frame_tests.specs.declared.FrameOctets.{FrameOctets}
 use Rattle.frame.proofs.TableLaws.{type-below, no_octets_reserved, octets_not_reserved}
+use Rattle.definitions.proofs.Tables.{sized}
 use Rattle.definitions.proofs.Frames.{type-frame, frame_path}
 use Rattle.frame_reader.specs.Buffer.{Plain}
 use Rattle.frame_tests.proofs.TestLaws.{no_crc}
@@ -31,14 +33,23 @@ known-there f s t n et en z = octets_not_reserved f t (omega (arith, type-below 
 
 -- ---- the chain
 
--- the octets hold a frame of a known type t, of n octets, and nothing that may not stand behind it
-pub record Whole (single : Bool) (f : Format) (s : List ℕ) (t n : ℕ) : Type 0 where
+-- the octets hold a frame of a known type t, of n octets
+pub record Whole (f : Format) (s : List ℕ) (t n : ℕ) : Type 0 where
   pub some : 0 < length s
   pub type_is : t ≡ type_in f (bits s)
   pub type_known : known t ≡ true
   pub size_is : n ≡ octets f t
   pub enough : n ≤ length s
-  pub ending : (not single || leb (length s) n) ≡ true
+
+-- what the type of `x` says
+pub whole-there : (x : FrameOctets) → Whole (format_of x.format) x.s.now x.frame_type x.size
+whole-there x = record {
+  some = omega (arith, x.size_is, x.enough, (sized (format_of x.format) x.frame_type x.type_known).some-octet);
+  type_is = x.type_is;
+  type_known = x.type_known;
+  size_is = x.size_is;
+  enough = x.enough;
+}
 
 module _ (single : Bool) (f : Format) (s : List ℕ) where
   pub refuses_1 : length s ≡ 0 → refused 1 ≡ read_with single f s
@@ -57,34 +68,34 @@ module _ (single : Bool) (f : Format) (s : List ℕ) where
   refuses_3 t n h et k en l =
       rw (le-leb 1 (length s) h, ← et, k, ← en, lt-leb n (length s) l)
 
-  pub refuses_4 : (t n : ℕ) → 0 < length s → t ≡ type_in f (bits s) → known t ≡ true → n ≡ octets f t → n ≤ length s
-      → (not single || leb (length s) n) ≡ false → refused 4 ≡ read_with single f s
-  unfolding read_with
-  refuses_4 t n h et k en l e =
-      rw (le-leb 1 (length s) h, ← et, k, ← en, le-leb n (length s) l, e)
-
-  module _ (t n : ℕ) (w : Whole single f s t n) where
-    pub refuses_5 : spare_clear f (bits s) ≡ false → refused 5 ≡ read_with single f s
+  module _ (t n : ℕ) (w : Whole f s t n) where
+    pub refuses_4 : (not single || leb (length s) n) ≡ false → refused 4 ≡ read_with single f s
     unfolding read_with
-    refuses_5 e =
-        rw (le-leb 1 (length s) w.some, ← w.type_is, w.type_known, ← w.size_is, le-leb n (length s) w.enough, w.ending, e)
+    refuses_4 e =
+        rw (le-leb 1 (length s) w.some, ← w.type_is, w.type_known, ← w.size_is, le-leb n (length s) w.enough, e)
 
-    pub refuses_6 : spare_clear f (bits s) ≡ true → fields_good f (frame_in f (bits s)) ≡ false → refused 6 ≡ read_with single f s
-    unfolding read_with
-    refuses_6 e₅ e =
-        rw (le-leb 1 (length s) w.some, ← w.type_is, w.type_known, ← w.size_is, le-leb n (length s) w.enough, w.ending, e₅, e)
+    module _ (ending : (not single || leb (length s) n) ≡ true) where
+      pub refuses_5 : spare_clear f (bits s) ≡ false → refused 5 ≡ read_with single f s
+      unfolding read_with
+      refuses_5 e =
+          rw (le-leb 1 (length s) w.some, ← w.type_is, w.type_known, ← w.size_is, le-leb n (length s) w.enough, ending, e)
 
-    pub refuses_7 : spare_clear f (bits s) ≡ true → fields_good f (frame_in f (bits s)) ≡ true → crc_good f (bits s) ≡ false
-        → refused 7 ≡ read_with single f s
-    unfolding read_with
-    refuses_7 e₅ e₆ e =
-        rw (le-leb 1 (length s) w.some, ← w.type_is, w.type_known, ← w.size_is, le-leb n (length s) w.enough, w.ending, e₅, e₆, e)
+      pub refuses_6 : spare_clear f (bits s) ≡ true → fields_good f (frame_in f (bits s)) ≡ false → refused 6 ≡ read_with single f s
+      unfolding read_with
+      refuses_6 e₅ e =
+          rw (le-leb 1 (length s) w.some, ← w.type_is, w.type_known, ← w.size_is, le-leb n (length s) w.enough, ending, e₅, e)
 
-    pub reads : spare_clear f (bits s) ≡ true → fields_good f (frame_in f (bits s)) ≡ true → crc_good f (bits s) ≡ true
-        → ok (frame_in f (bits s), n) ≡ read_with single f s
-    unfolding read_with
-    reads e₅ e₆ e₇ =
-        rw (le-leb 1 (length s) w.some, ← w.type_is, w.type_known, ← w.size_is, le-leb n (length s) w.enough, w.ending, e₅, e₆, e₇)
+      pub refuses_7 : spare_clear f (bits s) ≡ true → fields_good f (frame_in f (bits s)) ≡ true → crc_good f (bits s) ≡ false
+          → refused 7 ≡ read_with single f s
+      unfolding read_with
+      refuses_7 e₅ e₆ e =
+          rw (le-leb 1 (length s) w.some, ← w.type_is, w.type_known, ← w.size_is, le-leb n (length s) w.enough, ending, e₅, e₆, e)
+
+      pub reads : spare_clear f (bits s) ≡ true → fields_good f (frame_in f (bits s)) ≡ true → crc_good f (bits s) ≡ true
+          → ok (frame_in f (bits s), n) ≡ read_with single f s
+      unfolding read_with
+      reads e₅ e₆ e₇ =
+          rw (le-leb 1 (length s) w.some, ← w.type_is, w.type_known, ← w.size_is, le-leb n (length s) w.enough, ending, e₅, e₆, e₇)
 
 -- ---- a plain frame
 
@@ -117,5 +128,5 @@ module _ (f : Format) (s : List ℕ) (n : ℕ) (p : Plain f s n) where
   plain_reads h t q i r =
       ap (λ x. ok (x, n)) (plain_frame h t q i r)
       ∙ reads false f s (type_in f (bits s)) n
-      (record { some = p.some; type_is = refl; type_known = p.type_known; size_is = p.size; enough = p.enough; ending = refl })
+      (record { some = p.some; type_is = refl; type_known = p.type_known; size_is = p.size; enough = p.enough }) refl
       p.spare plain_fields plain_crc

@@ -1,17 +1,24 @@
 -- What a call that reads a frame promises of its answer and of the core's buffer, and what is found of a frame that is quickly read.
-use Rattle.std.specs.Prelude.{◌≡◌, true, false, List, ℕ, ◌≤◌, length, drop, Result}
+use Rattle.std.specs.Prelude.{◌≡◌, Bool, true, false, List, ℕ, ◌≤◌, length, drop, Result, Ok, Err}
 use Rattle.bits.specs.Bits.{num, bits}
-use Rattle.definitions.specs.Outcome.{Outcome}
+use Rattle.definitions.specs.Outcome.{Outcome, refused}
 use Rattle.definitions.specs.Frames.{Format, Frame, known, octets, carries_modes, type_in, core_in, spare_clear}
-use Rattle.definitions.specs.Reading.{core_after, buffer_core}
-use Rattle.frame.specs.Answers.{reading_of}
+use Rattle.definitions.specs.Reading.{read_with, core_after, buffer_core}
+use Rattle.frame.specs.Answers.{format_of, number_of, reading_of}
 use Rattle.frame.specs.declared.Refusal.{Refusal}
+use Rattle.frame.specs.declared.Format.{Format as CodeFormat}
 use Rattle.frame.specs.declared.FrameHeader.{FrameHeader}
+use Rattle.frame_tests.specs.declared.FrameOctets.{FrameOctets}
 
 -- the buffer is d₀ before the call and d after it
 pub record IntoBuffer (o : Outcome (Frame × ℕ)) (d₀ d : List ℕ) (r : Result (FrameHeader × ℕ) Refusal) : Type 0 where
   pub answer : reading_of (buffer_core d) r ≡ o
   pub buffer : d ≡ core_after o d₀
+
+-- the frame stands whole at the start of the octets, or each reader refuses it by one of its first three tests
+abbrev pub Fronts : CodeFormat → List ℕ → Result FrameOctets Refusal → Type 0
+Fronts f s (Ok x) = (x.format ≡ f) × (x.s.now ≡ s)
+Fronts f s (Err e) = (single : Bool) → refused (number_of e) ≡ read_with single (format_of f) s
 
 -- the n octets in front are a valid frame that carries no modes
 pub record Plain (f : Format) (s : List ℕ) (n : ℕ) : Type 0 where

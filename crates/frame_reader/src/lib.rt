@@ -2,102 +2,84 @@
 // the other `pub` functions are for the crates that go over recordings.
 #![tactic(auto)]
 
-ghost use Rattle.std.specs.Prelude.{◌≡◌, true, ◌<◌, ◌≤◌, length};
+ghost use Rattle.std.specs.Prelude.{◌≡◌, true, ◌≤◌, length, IfSome};
 ghost use Rattle.bits.specs.Bits.{bits};
-ghost use Rattle.definitions.specs.Frames.{if1, if2, storage, known, octets, core_in};
+ghost use Rattle.definitions.specs.Frames.{if1, known, octets, core_in};
 ghost use Rattle.definitions.specs.Reading.{read_with, read_frame, into_buffer, read_call};
-ghost use Rattle.frame_reader.specs.Buffer.{IntoBuffer, Plain};
+ghost use Rattle.frame_reader.specs.Buffer.{IntoBuffer, Fronts, Plain};
 ghost use Rattle.frame.specs.Answers.{format_of, frame_with, reading_of};
 
 use frame::table::{carries_modes, core_bits, header_bits, octets_of};
 use frame::{Format, FrameHeader, Refusal};
-use frame_tests::{
-    crc_good, ends, header_good, header_in, quality_in, sid_fine, spare_clear, type_in,
-};
+use frame_tests::{FrameOctets, ends, header_good, quality_in, sid_fine, type_in};
 
-// The tests in document 01's order.
+// The octets of the frame at the start of `s`, where it stands whole there: the first three tests.
 #[inline(always)]
-fn judge(single: bool, f: Format, s: &[u8]) -> Result<(FrameHeader, usize), Refusal>
-    ensures { reading_of (λ t. core_in (format_of f) t (bits s.now)) result ≡ read_with single (format_of f) s.now }
+fn front(f: Format, s: &[u8]) -> Result<FrameOctets<'_>, Refusal>
+    ensures { Fronts f s.now result }
 {
     if s.len() == 0 {
         return Err(Refusal::NoOctets);
     }
-    let t = type_in(f, s);
-    let k = t as usize;
-    let n = octets_of(f, k);
-    if n == 0 {
+    let frame_type = type_in(f, s);
+    let size = octets_of(f, usize::from(frame_type));
+    if size == 0 {
         return Err(Refusal::ReservedType);
     }
-    if s.len() < n {
+    if s.len() < size {
         return Err(Refusal::TooShort);
     }
-    if !ends(single, s.len(), n) {
+    Ok(FrameOctets {
+        format: f,
+        s,
+        frame_type,
+        size,
+    })
+}
+
+// The tests in document 01's order. A part of each caller, so that the compiler makes those of Down, which knows the format, without asking it:
+// with one `judge` that all share, Down of a SID frame takes a third more time.
+#[inline(always)]
+fn judge(single: bool, f: Format, s: &[u8]) -> Result<(FrameHeader, usize), Refusal>
+    ensures { reading_of (λ t. core_in (format_of f) t (bits s.now)) result ≡ read_with single (format_of f) s.now }
+{
+    let x = front(f, s)?;
+    if !ends(single, x.s.len(), x.size) {
         return Err(Refusal::OctetsAfter);
     }
-    if !spare_clear(f, s, k, n) {
+    if !x.spare_clear() {
         return Err(Refusal::SpareBit);
     }
-    let h = header_in(f, s, t);
-    if !header_good(f, s, h) {
+    let h = x.header();
+    if !header_good(x.format, x.s, h) {
         return Err(Refusal::FieldRange);
     }
-    if !crc_good(f, s, k) {
+    if !x.crc_good() {
         return Err(Refusal::CrcMismatch);
     }
-    Ok((h, n))
+    Ok((h, x.size))
 }
 
-// The octets of a valid frame that carries no modes. 0 where it carries them, or is refused.
-fn plain_octets(f: Format, s: &[u8]) -> usize
-    ensures { 0 < result → Plain (format_of f) s.now result }
+// The octets of a valid frame that carries no modes; of another frame, and of one that is refused, none. A part of each caller: so the
+// compiler makes the tests of one format without asking which it is.
+#[inline(always)]
+fn plain(f: Format, s: &[u8]) -> Option<usize>
+    ensures { IfSome result (λ n. Plain (format_of f) s.now n) }
 {
-    if s.len() == 0 {
-        return 0;
+    if s.len() == 0 || carries_modes(f, usize::from(type_in(f, s))) {
+        return None;
     }
-    let k = type_in(f, s) as usize;
-    if carries_modes(f, k) {
-        return 0;
-    }
-    let size = octets_of(f, k);
-    if size == 0 {
-        return 0;
-    }
-    if s.len() < size {
-        return 0;
-    }
-    if !spare_clear(f, s, k, size) {
-        return 0;
-    }
-    if sid_fine(f, s, k) { size } else { 0 }
+    let x = front(f, s).ok()?;
+    (x.spare_clear() && sid_fine(f, s, usize::from(x.frame_type))).then_some(x.size)
 }
 
-// The same in each format: so the compiler makes the tests of one format without asking which it is.
-fn plain_if1(s: &[u8]) -> usize
-    ensures { 0 < result → Plain if1 s.now result }
-{
-    plain_octets(Format::If1, s)
-}
-
-fn plain_if2(s: &[u8]) -> usize
-    ensures { 0 < result → Plain if2 s.now result }
-{
-    plain_octets(Format::If2, s)
-}
-
-fn plain_storage(s: &[u8]) -> usize
-    ensures { 0 < result → Plain storage s.now result }
-{
-    plain_octets(Format::Storage, s)
-}
-
-fn plain_front(f: Format, s: &[u8]) -> usize
-    ensures { 0 < result → Plain (format_of f) s.now result }
+fn plain_front(f: Format, s: &[u8]) -> Option<usize>
+    ensures { IfSome result (λ n. Plain (format_of f) s.now n) }
 {
     match f {
-        Format::If1 => plain_if1(s),
-        Format::If2 => plain_if2(s),
-        Format::Storage => plain_storage(s),
+        Format::If1 => plain(Format::If1, s),
+        Format::If2 => plain(Format::If2, s),
+        Format::Storage => plain(Format::Storage, s),
     }
 }
 
@@ -113,8 +95,7 @@ pub fn read_next(f: Format, s: &[u8]) -> Result<(FrameHeader, usize), Refusal>
 pub fn read_front(f: Format, s: &[u8]) -> Result<(FrameHeader, usize), Refusal>
     ensures { reading_of (λ t. core_in (format_of f) t (bits s.now)) result ≡ read_frame (format_of f) s.now }
 {
-    let n = plain_front(f, s);
-    if 0 < n {
+    if let Some(n) = plain_front(f, s) {
         let h = FrameHeader {
             frame_type: type_in(f, s),
             quality: quality_in(f, s),
@@ -126,8 +107,7 @@ pub fn read_front(f: Format, s: &[u8]) -> Result<(FrameHeader, usize), Refusal>
     read_next(f, s)
 }
 
-// One IF1 frame, with nothing behind it. `pub` for the link's Down. The tests are those of `judge`; here the format is known, and the compiler
-// makes them part of Down: with `judge`, which other calls share, Down of a SID frame takes a third more time.
+// One IF1 frame, with nothing behind it. `pub` for the link's Down.
 pub fn read_if1(s: &[u8]) -> Result<(FrameHeader, usize), Refusal>
     ensures { reading_of (λ t. core_in if1 t (bits s.now)) result ≡ read_with true if1 s.now }
 {

@@ -11,17 +11,11 @@ use Rattle.definitions.specs.Frames.{core_bits, header_bits, core_in}
 use Rattle.frame.specs.Answers.{format_of}
 use Rattle.definitions.proofs.Tables.{known-below}
 use Rattle.frame.proofs.TableLaws.{room}
-use Rattle.frame_reader.proofs.CallLaws.{no_room, core-written}
+use Rattle.frame_reader.proofs.CallLaws.{core-written}
 use Rattle.frame_reader.proofs.core_out.Goals as goal
 
 pub core_bits-k-requires : goal.core_bits-k-requires
 core_bits-k-requires c = known-below _ c.requires.0
-
-pub returns-then-core-m : goal.returns-then-core-m
-returns-then-core-m c =
-    let a = c.args in
-    let k = c.core_bits-k in
-    no_room a.h (core_in (format_of a.f) a.h.frame_type (bits a.s.now)) a.core.now k.result k.ensures.0 c.if-core-m.true
 
 pub put_run-requires : goal.put_run-requires
 put_run-requires c =

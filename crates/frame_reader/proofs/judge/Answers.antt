@@ -1,111 +1,61 @@
 -- `frame_reader::judge` meets its contract: each test is the definition's, and they are made in its order. Assumes nothing.
 use mathlib.Core.Path.{◌≡◌, sym, ap, ◌∙◌}
-use native.Mathlib.Omega.{arith}
 use Rattle.bits.specs.Bits.{bits}
 use Rattle.definitions.specs.Outcome.{ok}
 use Rattle.definitions.specs.Frames.{core_in, frame_in, fields_good}
 use Rattle.frame.specs.Answers.{format_of, frame_with}
-use Rattle.frame.proofs.TableLaws.{type-below}
-use Rattle.frame_reader.proofs.ReaderLaws.{Whole, known-there, header-same, refuses_1, refuses_2, refuses_3, refuses_4, refuses_5, refuses_6, refuses_7, reads}
-use Rattle.frame_reader.proofs.judge.Goals.{Else-not-ends, After-header_in-h}
+use Rattle.frame_reader.proofs.ReaderLaws.{whole-there, header-same, refuses_4, refuses_5, refuses_6, refuses_7, reads}
+use Rattle.frame_reader.proofs.judge.Goals.{After-header-h}
 use Rattle.frame_reader.proofs.judge.Goals as goal
 
--- once the first four tests are passed
-whole-there : (c : Else-not-ends) → Whole c.args.single (format_of c.args.f) c.args.s.now c.type_in-t.result c.octets_of-n.result
-whole-there c = record {
-  some = omega arith;
-  type_is = c.type_in-t.ensures;
-  type_known = known-there (format_of c.args.f) c.args.s.now _ _ c.type_in-t.ensures c.octets_of-n.ensures.0 c.if-n-eq0.false;
-  size_is = c.octets_of-n.ensures.0;
-  enough = c.if-s-n.false;
-  ending = sym c.ends.ensures ∙ c.if-not-ends.false;
-}
-
 -- the header's frame is the frame that is read
-header-there : (c : After-header_in-h)
-    → (c.header_in-h.result.frame_type ≡ c.type_in-t.result)
-    × (frame_with c.header_in-h.result (core_in (format_of c.args.f) c.header_in-h.result.frame_type (bits c.args.s.now)) ≡ frame_in (format_of c.args.f) (bits c.args.s.now))
-header-there c = header-same (format_of c.args.f) (bits c.args.s.now) c.header_in-h.result c.type_in-t.result c.type_in-t.ensures c.header_in-h.ensures
-
-pub returns-then-s-eq0 : goal.returns-then-s-eq0
-returns-then-s-eq0 c =
-    let a = c.args in
-    refuses_1 a.single (format_of a.f) a.s.now c.if-s-eq0.true
-
-pub octets_of-n-requires : goal.octets_of-n-requires
-octets_of-n-requires c = omega (arith, c.type_in-t.ensures, type-below (format_of c.args.f) (bits c.args.s.now))
-
-pub returns-then-n-eq0 : goal.returns-then-n-eq0
-returns-then-n-eq0 c =
-    let a = c.args in
-    let ty = c.type_in-t in
-    let n = c.octets_of-n in
-    refuses_2 a.single (format_of a.f) a.s.now ty.result n.result (omega arith) ty.ensures n.ensures.0 c.if-n-eq0.true
-
-pub returns-then-s-n : goal.returns-then-s-n
-returns-then-s-n c =
-    let a = c.args in
-    let ty = c.type_in-t in
-    let n = c.octets_of-n in
-    refuses_3 a.single (format_of a.f) a.s.now ty.result n.result (omega arith) ty.ensures (known-there (format_of c.args.f) c.args.s.now _ _ ty.ensures n.ensures.0 c.if-n-eq0.false) n.ensures.0 c.if-s-n.true
+header-there : (c : After-header-h)
+    → (c.header-h.result.frame_type ≡ c.in_ok-x.x.frame_type)
+    × (frame_with c.header-h.result (core_in (format_of c.in_ok-x.x.format) c.header-h.result.frame_type (bits c.in_ok-x.x.s.now)) ≡ frame_in (format_of c.in_ok-x.x.format) (bits c.in_ok-x.x.s.now))
+header-there c =
+    let x = c.in_ok-x.x in
+    header-same (format_of x.format) (bits x.s.now) c.header-h.result x.frame_type x.type_is c.header-h.ensures
 
 pub returns-then-not-ends : goal.returns-then-not-ends
 returns-then-not-ends c =
-    let a = c.args in
-    let ty = c.type_in-t in
-    let n = c.octets_of-n in
-    refuses_4 a.single (format_of a.f) a.s.now ty.result n.result (omega arith) ty.ensures (known-there (format_of c.args.f) c.args.s.now _ _ ty.ensures n.ensures.0 c.if-n-eq0.false) n.ensures.0
-    c.if-s-n.false (sym c.ends.ensures ∙ c.if-not-ends.true)
-
-pub spare_clear-requires : goal.spare_clear-requires
-spare_clear-requires c =
-    let w = whole-there (goal.at.spare_clear-requires c).Else-not-ends in
-    (w.type_is, w.type_known, w.size_is, w.enough)
+    let x = c.in_ok-x.x in
+    rw (← c.in_ok-x.ensures.0, ← c.in_ok-x.ensures.1) (refuses_4 c.args.single (format_of x.format) x.s.now _ _ (whole-there x) (sym c.ends.ensures ∙ c.if-not-ends.true))
 
 pub returns-then-not-spare_clear : goal.returns-then-not-spare_clear
 returns-then-not-spare_clear c =
-    let a = c.args in
-    refuses_5 a.single (format_of a.f) a.s.now _ _ (whole-there (goal.at.returns-then-not-spare_clear c).Else-not-ends) (sym c.spare_clear.ensures ∙ c.if-not-spare_clear.true)
-
-pub header_in-h-requires : goal.header_in-h-requires
-header_in-h-requires c =
-    let w = whole-there (goal.at.header_in-h-requires c).Else-not-ends in
-    (w.type_is, w.type_known, rw w.size_is at w.enough)
+    let x = c.in_ok-x.x in
+    rw (← c.in_ok-x.ensures.0, ← c.in_ok-x.ensures.1) (refuses_5 c.args.single (format_of x.format) x.s.now _ _ (whole-there x) (sym c.ends.ensures ∙ c.if-not-ends.false)
+    (sym c.spare_clear.ensures ∙ c.if-not-spare_clear.true))
 
 pub header_good-requires : goal.header_good-requires
 header_good-requires c =
-    let w = whole-there (goal.at.header_good-requires c).Else-not-ends in
-    rw (header-there (goal.at.header_good-requires c).After-header_in-h).0 (rw w.size_is at w.enough)
+    let x = c.in_ok-x.x in
+    rw (header-there (goal.at.header_good-requires c).After-header-h).0 (rw (← x.size_is) x.enough)
 
 pub returns-then-not-header_good : goal.returns-then-not-header_good
 returns-then-not-header_good c =
-    let a = c.args in
-    let f = format_of a.f in
-    refuses_6 a.single f a.s.now _ _ (whole-there (goal.at.returns-then-not-header_good c).Else-not-ends)
+    let x = c.in_ok-x.x in
+    let f = format_of x.format in
+    rw (← c.in_ok-x.ensures.0, ← c.in_ok-x.ensures.1) (refuses_6 c.args.single f x.s.now _ _ (whole-there x) (sym c.ends.ensures ∙ c.if-not-ends.false)
     (sym c.spare_clear.ensures ∙ c.if-not-spare_clear.false)
-    (sym (c.header_good.ensures ∙ ap (fields_good f) (header-there (goal.at.returns-then-not-header_good c).After-header_in-h).1) ∙ c.if-not-header_good.true)
-
-pub crc_good-requires : goal.crc_good-requires
-crc_good-requires c =
-    let w = whole-there (goal.at.crc_good-requires c).Else-not-ends in
-    (w.type_is, w.type_known, rw w.size_is at w.enough)
+    (sym (c.header_good.ensures ∙ ap (fields_good f) (header-there (goal.at.returns-then-not-header_good c).After-header-h).1) ∙ c.if-not-header_good.true))
 
 pub returns-then-not-crc_good : goal.returns-then-not-crc_good
 returns-then-not-crc_good c =
-    let a = c.args in
-    let f = format_of a.f in
-    refuses_7 a.single f a.s.now _ _ (whole-there (goal.at.returns-then-not-crc_good c).Else-not-ends)
+    let x = c.in_ok-x.x in
+    let f = format_of x.format in
+    rw (← c.in_ok-x.ensures.0, ← c.in_ok-x.ensures.1) (refuses_7 c.args.single f x.s.now _ _ (whole-there x) (sym c.ends.ensures ∙ c.if-not-ends.false)
     (sym c.spare_clear.ensures ∙ c.if-not-spare_clear.false)
-    (sym (c.header_good.ensures ∙ ap (fields_good f) (header-there (goal.at.returns-then-not-crc_good c).After-header_in-h).1) ∙ c.if-not-header_good.false)
-    (sym c.crc_good.ensures ∙ c.if-not-crc_good.true)
+    (sym (c.header_good.ensures ∙ ap (fields_good f) (header-there (goal.at.returns-then-not-crc_good c).After-header-h).1) ∙ c.if-not-header_good.false)
+    (sym c.crc_good.ensures ∙ c.if-not-crc_good.true))
 
 pub returns : goal.returns
 returns c =
-    let a = c.args in
-    let f = format_of a.f in
-    let n = c.octets_of-n.result in
-    ap (λ x. ok (x, n)) (header-there (goal.at.returns c).After-header_in-h).1
-    ∙ reads a.single f a.s.now _ _ (whole-there (goal.at.returns c).Else-not-ends)
+    let x = c.in_ok-x.x in
+    let f = format_of x.format in
+    let h = header-there (goal.at.returns c).After-header-h in
+    rw (← c.in_ok-x.ensures.0, ← c.in_ok-x.ensures.1) (ap (λ y. ok (y, x.size)) h.1
+    ∙ reads c.args.single f x.s.now _ _ (whole-there x) (sym c.ends.ensures ∙ c.if-not-ends.false)
     (sym c.spare_clear.ensures ∙ c.if-not-spare_clear.false)
-    (sym (c.header_good.ensures ∙ ap (fields_good f) (header-there (goal.at.returns c).After-header_in-h).1) ∙ c.if-not-header_good.false)
-    (sym c.crc_good.ensures ∙ c.if-not-crc_good.false)
+    (sym (c.header_good.ensures ∙ ap (fields_good f) h.1) ∙ c.if-not-header_good.false)
+    (sym c.crc_good.ensures ∙ c.if-not-crc_good.false))
