@@ -8,9 +8,8 @@ ghost use Rattle.definitions.specs.Reading.{build_frame};
 ghost use Rattle.answers.specs.Flat.{placed_numbers, FlatConversion, FlatOutput, FlatFrame};
 ghost use Rattle.level_one.specs.Formats.{validate_one, convert_one, length_one, read_one};
 
-use answers::{Answer, FrameAnswer, built_answer, counts_answer, read_answer, refused_frame};
-use frame::Refusal;
-use recording_reader::Counts;
+use answers::{Answer, FrameAnswer};
+use frame::{Format, Refusal};
 
 // The highest number of a format that level one has.
 const LAST_FORMAT: u64 = 2;
@@ -19,46 +18,43 @@ const LAST_FORMAT: u64 = 2;
 fn both_here(from: u64, to: u64) -> bool
     ensures { result ≡ (leb from 2 && leb to 2) }
 {
-    if from <= LAST_FORMAT {
-        return to <= LAST_FORMAT;
-    }
-    false
+    from <= LAST_FORMAT && to <= LAST_FORMAT
 }
 
 pub fn amrwb_validate(format: u64, rec: &[u8]) -> Answer
     ensures { result ≡ placed_numbers (validate_one format rec.now) }
 {
     if LAST_FORMAT < format {
-        return counts_answer(Counts::Refused(Refusal::ArgumentRange, 0, 0));
+        return Refusal::ArgumentRange.into();
     }
-    counts_answer(recording_reader::validate(format, rec))
+    recording_reader::validate(format, rec).into()
 }
 
 pub fn amrwb_convert(from: u64, to: u64, request: u64, rec: &[u8], out: &mut [u8]) -> Answer
     ensures { FlatConversion (convert_one from to request rec.now (length out.old)) out.old out.new result }
 {
     if !both_here(from, to) {
-        return counts_answer(Counts::Refused(Refusal::ArgumentRange, 0, 0));
+        return Refusal::ArgumentRange.into();
     }
-    counts_answer(converter::convert(from, to, request, rec, out))
+    converter::convert(from, to, request, rec, out).into()
 }
 
 pub fn amrwb_convert_length(from: u64, to: u64, request: u64, rec: &[u8]) -> Answer
     ensures { result ≡ placed_numbers (length_one from to request rec.now) }
 {
     if !both_here(from, to) {
-        return counts_answer(Counts::Refused(Refusal::ArgumentRange, 0, 0));
+        return Refusal::ArgumentRange.into();
     }
-    counts_answer(converter::convert_length(from, to, request, rec))
+    converter::convert_length(from, to, request, rec).into()
 }
 
 pub fn amrwb_read_frame(format: u64, octets: &[u8], core: &mut [u8]) -> FrameAnswer
     ensures { FlatFrame (read_one format octets.now (length core.old)) core.old core.new result }
 {
     if LAST_FORMAT < format {
-        return refused_frame(Refusal::ArgumentRange);
+        return Refusal::ArgumentRange.into();
     }
-    read_answer(format, octets, core)
+    frame_reader::read_frame(format, octets, core).into()
 }
 
 pub fn amrwb_build_if1(
@@ -71,11 +67,11 @@ pub fn amrwb_build_if1(
 ) -> Answer
     ensures { FlatOutput (build_frame if1 frame_type quality indication request core.now (length out.old)) out.old out.new result }
 {
-    built_answer(frame_builder::build_if1(frame_type, quality, indication, request, core, out))
+    frame_builder::build(Format::If1, frame_type, quality, indication, request, core, out).into()
 }
 
 pub fn amrwb_build_if2(frame_type: u64, quality: u64, core: &[u8], out: &mut [u8]) -> Answer
     ensures { FlatOutput (build_frame if2 frame_type quality 0 0 core.now (length out.old)) out.old out.new result }
 {
-    built_answer(frame_builder::build_if2(frame_type, quality, core, out))
+    frame_builder::build(Format::If2, frame_type, quality, 0, 0, core, out).into()
 }

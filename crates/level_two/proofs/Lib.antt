@@ -1,1 +1,1 @@
-mod ViewLaws
+mod NoCore
