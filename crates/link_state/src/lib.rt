@@ -9,8 +9,7 @@ ghost use Rattle.links.specs.History as call;
 ghost use Rattle.combinations.specs.Answers.{found_of};
 ghost use Rattle.link_state.specs.Answers.{moved_of, five, set_of};
 
-use combinations::{HIGHEST_RFCI, NO_DATA, combination_good};
-use frame::table::core_bits;
+use combinations::combination_good;
 use frame::{HIGHEST_MODE, Refusal};
 use links::{Combination, Link, NO_REQUEST, PLACES, RfcSet};
 
@@ -19,25 +18,18 @@ const NUMBERS: usize = 5;
 
 // ---- a set from numbers
 
-// The combination that five numbers write, if it is a good one. No size is above K, so that their sum is small.
-#[tactic(auto, using(std::proofs::lemmas::Bool::Decides::nat_tests), unfolding(links::specs::Sets::combination_good))]
+// The combination that five numbers write, if it is a good one.
+#[tactic(auto, using(crate::proofs::StateLaws::core_within, std::proofs::lemmas::Bool::Decides::nat_tests), unfolding(links::specs::Sets::combination_good))]
 fn combination_in(row: &[u64; 5]) -> Option<Combination>
     ensures { found_of 11 result ≡ unless 11 (combination_good (five row.now)) (ok (five row.now)) }
 {
     let [rfci, t, size1, size2, size3] = *row;
-    if HIGHEST_RFCI < rfci || NO_DATA < t {
-        return None;
-    }
-    let k = core_bits(t as usize) as u64;
-    if k < size1 || k < size2 || k < size3 {
-        return None;
-    }
     let c = Combination {
-        rfci: rfci as u8,
-        frame_type: t as u8,
-        size1: size1 as u16,
-        size2: size2 as u16,
-        size3: size3 as u16,
+        rfci: u8::try_from(rfci).ok()?,
+        frame_type: u8::try_from(t).ok()?,
+        size1: u16::try_from(size1).ok()?,
+        size2: u16::try_from(size2).ok()?,
+        size3: u16::try_from(size3).ok()?,
     };
     if combination_good(c) { Some(c) } else { None }
 }
