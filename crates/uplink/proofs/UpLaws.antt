@@ -5,6 +5,7 @@ use mathlib.Core.List.{List, [], ◌∷◌, ◌++◌, append_assoc, append-nil}
 use Prim.Native.Nat.{ℕ, ◌+◌, ◌-◌, ◌*◌, ◌<◌, ◌≤◌}
 use native.Mathlib.Nat.{zero-add}
 use native.Mathlib.Omega.{arith}
+use Rattle.std.proofs.Common.{Result, Ok, Err}
 use lib.Dec.{eqb, leb}
 use lib.ListN.{length, take, drop, length-append}
 use lib.Seq.{drop-drop, drop-append-add, take_at, length-take-le}
@@ -19,26 +20,28 @@ use Rattle.definitions.proofs.Frames.{frame_path, size-layout}
 use Rattle.definitions.proofs.Claims.{bits-core}
 use Rattle.frame.specs.Answers.{number_of}
 use Rattle.frame.specs.declared.Refusal.{Refusal}
-use Rattle.frame.specs.declared.Built.{Built}
-use Rattle.frame.specs.declared.Built.TheVariants.{Octets, Refused}
 use Rattle.frame.proofs.TableLaws.{modes_carried}
 use Rattle.frame_writer.specs.Writing.{Writable}
 use Rattle.frame_builder.specs.Output.{IntoOutput}
 use Rattle.frame_builder.proofs.BuilderLaws.{modes_fit}
 use Rattle.links.specs.declared.Combination.{Combination}
-use Rattle.links.specs.Sets.{combination_good}
-use Rattle.links.specs.Calls.{subflows_good, joined, up_frame, written}
+use Rattle.links.specs.Calls.{joined, up_frame, written}
 use Rattle.links.proofs.SetLaws.{combination-good}
+use Rattle.uplink_judge.specs.Judging.{HasCore}
 use Rattle.uplink_judge.proofs.JudgeLaws.{there₁, there₂, there₃, length-joined}
 use Rattle.uplink.specs.Subflows.{Joinable}
 
 -- ---- joined
 
-module _ (c : Combination) (s₁ s₂ s₃ : List ℕ) (good : subflows_good c s₁ s₂ s₃ ≡ true) where
-  pub joinable : (core : List ℕ) → combination_good c ≡ true → length core ≡ 60 → Joinable c s₁ s₂ s₃ core
-  joinable core g l =
-      let k = combination-good c g in
-      record { there1 = there₁ c s₁ s₂ s₃ good; there2 = there₂ c s₁ s₂ s₃ good; there3 = there₃ c s₁ s₂ s₃ good; room = omega (arith, k.sum, core-most c.frame_type k.type_known) }
+pub joinable : {c : Combination} {s₁ s₂ s₃ : List ℕ} (core : List ℕ) → HasCore c s₁ s₂ s₃ → length core ≡ 60 → Joinable c s₁ s₂ s₃ core
+joinable {c} {s₁} {s₂} {s₃} core h l =
+    let k = combination-good c h.good in
+    record {
+      there1 = there₁ c s₁ s₂ s₃ h.flows;
+      there2 = there₂ c s₁ s₂ s₃ h.flows;
+      there3 = there₃ c s₁ s₂ s₃ h.flows;
+      room = omega (arith, k.sum, core-most c.frame_type k.type_known);
+    }
 
 -- a run put behind others
 pub put-behind : (x y : List Bool) (d₀ d e : List ℕ) (at n : ℕ) → length y ≡ n → length x ≡ at → d ≡ pack x ++ drop (octets_for at) d₀
@@ -103,20 +106,17 @@ build-written t q i r core room k hq size =
     ap (λ k. clear (8 * length (pack core) - k) (drop k (bits (pack core)))) (sym size) ∙ (bits-core core).1 in
     rw (same, ht, le-leb q 1 hq, k, l, z, judged_last)
 
-pub build-empty : (q room : ℕ) (none : List ℕ) → q < 2 → length none ≡ 0 → build_frame if1 15 q 0 0 none room ≡ written (frame_by 15 q 0 0 []) room
+-- no octets are the packed core of no bits
+pub build-empty : (q p room : ℕ) → q < 2 → p ≡ q → build_frame if1 15 p 0 0 [] room ≡ written (frame_by 15 q 0 0 []) room
 unfolding known core_bits pack packs
-build-empty q room none hq z = ap (λ k. build_frame if1 15 q 0 0 k room) (no_octets none z) ∙ build-written 15 q 0 0 [] room refl (omega arith) refl
-  where
-    no_octets : (l : List ℕ) → length l ≡ 0 → l ≡ pack []
-    no_octets [] z = refl
-    no_octets (x ∷ l) z = absurd (omega arith)
+build-empty q p room hq e = ap (λ q. build_frame if1 15 q 0 0 [] room) e ∙ build-written 15 q 0 0 [] room refl (omega arith) refl
 
 -- ---- the promise
 
-pub refused-up : (o : Outcome (List ℕ)) (d : List ℕ) (e : Refusal) → o ≡ refused (number_of e) → IntoOutput o d d (Refused e)
+pub refused-up : (o : Outcome (List ℕ)) (d : List ℕ) (e : Refusal) → o ≡ refused (number_of e) → IntoOutput o d d (Err e)
 refused-up o d e h = record { answer = sym (ap counted h); buffer = sym (ap (λ o. output_after o d) h) }
 
-pub into_same : (o p : Outcome (List ℕ)) (d₀ d : List ℕ) (r : Built) → o ≡ p → IntoOutput o d₀ d r → IntoOutput p d₀ d r
+pub into_same : (o p : Outcome (List ℕ)) (d₀ d : List ℕ) (r : Result ℕ Refusal) → o ≡ p → IntoOutput o d₀ d r → IntoOutput p d₀ d r
 into_same o p d₀ d r e h = subst (λ o. IntoOutput o d₀ d r) e h
 
 -- a frame that is written
@@ -130,7 +130,7 @@ written-whole : (x : Frame) (room n : ℕ) → fields_good if1 x ≡ true → n 
 written-whole x room n g e h = rw (g, ← e, le-leb n room h)
 
 pub written_into : (x : Frame) (d₀ d : List ℕ) (n : ℕ) → fields_good if1 x ≡ true → known x.type ≡ true → length x.core ≡ core_bits x.type
-    → n ≡ octets if1 x.type → n ≤ length d₀ → d ≡ layout if1 x ++ drop (octets if1 x.type) d₀ → IntoOutput (written x (length d₀)) d₀ d (Octets n)
+    → n ≡ octets if1 x.type → n ≤ length d₀ → d ≡ layout if1 x ++ drop (octets if1 x.type) d₀ → IntoOutput (written x (length d₀)) d₀ d (Ok n)
 written_into x d₀ d n g k size e h put =
     let o = written-whole x (length d₀) n g e h in
     let l = size-layout if1 x k size in
@@ -140,44 +140,44 @@ written_into x d₀ d n g k size e h put =
     }
 
 -- of a combination that has a core
-module _ (request fqc : ℕ) (c : Combination) (s₁ s₂ s₃ : List ℕ) (g : combination_good c ≡ true) (t9 : c.frame_type ≤ 9) (w : subflows_good c s₁ s₂ s₃ ≡ true) where
+module _ (request fqc : ℕ) {c : Combination} {s₁ s₂ s₃ : List ℕ} (h : HasCore c s₁ s₂ s₃) where
   pub type_known : known c.frame_type ≡ true
-  type_known = (combination-good c g).type_known
+  type_known = (combination-good c h.good).type_known
 
   pub core_long : length (joined c s₁ s₂ s₃) ≡ core_bits c.frame_type
-  core_long = length-joined c s₁ s₂ s₃ w ∙ (combination-good c g).sum
+  core_long = length-joined c s₁ s₂ s₃ h.flows ∙ (combination-good c h.good).sum
 
-  pub octets_if1 : (m : ℕ) → m ≡ core_octets c.frame_type → 3 + m ≡ octets if1 c.frame_type
+  pub octets_if1 : (m : ℕ) → m ≡ core_octets c.frame_type → (3 + m ≡ octets if1 c.frame_type) × (m ≤ 60)
   octets_if1 m e =
       let t = c.frame_type in
-      omega (arith, (sized if1 t type_known).packed, (modes_carried if1 t type_known (le-leb t 9 t9)).0)
+      (omega (arith, (sized if1 t type_known).packed, (modes_carried if1 t type_known (le-leb t 9 h.type)).0), omega (arith, core-most t type_known))
 
   -- the packed core in front of the buffer
   pub front_packed : (k r : List ℕ) (m : ℕ) → k ≡ pack (joined c s₁ s₂ s₃) ++ r → m ≡ core_octets c.frame_type → take m k ≡ pack (joined c s₁ s₂ s₃)
-  front_packed k r m e h = core_front (joined c s₁ s₂ s₃) k r m e (h ∙ ap octets_for (sym core_long))
+  front_packed k r m e i = core_front (joined c s₁ s₂ s₃) k r m e (i ∙ ap octets_for (sym core_long))
 
   -- the frame by its fields
-  pub frame_is : (q i : ℕ) (core : List Bool) → q ≡ cond (eqb fqc 0) 1 0 → i ≡ cond (leb c.frame_type 8) c.frame_type 0
-      → core ≡ joined c s₁ s₂ s₃ → frame_by c.frame_type q i request core ≡ up_frame request fqc c s₁ s₂ s₃
-  frame_is q i core eq ei e =
-      frame_path _ _ refl eq ei (sym (ap (λ b. cond b request 0) (le-leb c.frame_type 9 t9))) e
+  pub frame_is : (t q i r : ℕ) (core : List Bool) → t ≡ c.frame_type → q ≡ cond (eqb fqc 0) 1 0 → i ≡ cond (leb c.frame_type 8) c.frame_type 0
+      → r ≡ request → core ≡ joined c s₁ s₂ s₃ → frame_by t q i r core ≡ up_frame request fqc c s₁ s₂ s₃
+  frame_is t q i r core et eq ei er e =
+      frame_path _ _ et eq ei (er ∙ sym (ap (λ b. cond b request 0) (le-leb c.frame_type 9 h.type))) e
 
-  pub buffer-core : (k : List ℕ) → k ≡ pack (joined c s₁ s₂ s₃) → buffer_core k c.frame_type ≡ joined c s₁ s₂ s₃
-  buffer-core k e =
-      ap (λ k. take (core_bits c.frame_type) (bits k)) e ∙ ap (λ n. take n (bits (pack (joined c s₁ s₂ s₃)))) (sym core_long) ∙ (bits-core (joined c s₁ s₂ s₃)).0
+  pub buffer-core : (k : List ℕ) (t : ℕ) → t ≡ c.frame_type → k ≡ pack (joined c s₁ s₂ s₃) → buffer_core k t ≡ joined c s₁ s₂ s₃
+  buffer-core k t et e =
+      ap₂ (λ t k. take (core_bits t) (bits k)) et e ∙ ap (λ n. take n (bits (pack (joined c s₁ s₂ s₃)))) (sym core_long) ∙ (bits-core (joined c s₁ s₂ s₃)).0
 
   pub run_core : (k r : List ℕ) → k ≡ pack (joined c s₁ s₂ s₃) ++ r → take (core_bits c.frame_type) (bits k) ≡ joined c s₁ s₂ s₃
   run_core k r e = ap₂ (λ n k. take n (bits k)) (sym core_long) e ∙ take_packed (joined c s₁ s₂ s₃) r
 
   pub modes_low : fields_good if1 (up_frame request fqc c s₁ s₂ s₃) ≡ true → (cond (leb c.frame_type 8) c.frame_type 0 ≤ 8) × (request ≤ 8)
-  modes_low h =
-      let m = modes_fit if1 (up_frame request fqc c s₁ s₂ s₃) h in
-      (m.0, subst (λ b. cond b request 0 ≤ 8) (le-leb c.frame_type 9 t9) m.1)
+  modes_low g =
+      let m = modes_fit if1 (up_frame request fqc c s₁ s₂ s₃) g in
+      (m.0, subst (λ b. cond b request 0 ≤ 8) (le-leb c.frame_type 9 h.type) m.1)
 
   pub writable : (q i : ℕ) (k d : List ℕ) (n : ℕ) → q < 2 → i ≡ cond (leb c.frame_type 8) c.frame_type 0
       → fields_good if1 (up_frame request fqc c s₁ s₂ s₃) ≡ true → length k ≡ 60 → n ≡ octets if1 c.frame_type → n ≤ length d
       → Writable if1 (record { frame_type = c.frame_type; quality = q; indication = i; request = request }) k 0 d
-  writable q i k d n hq ei g lk en h =
+  writable q i k d n hq ei g lk en l =
       let m = modes_low g in
       let most = core-most c.frame_type type_known in
       record {

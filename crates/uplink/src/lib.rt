@@ -1,11 +1,10 @@
 // Up: three sub-flows joined into an IF1 frame. `up` is an entry; `join_frame` is `pub` for level three.
 #![tactic(auto)]
 
-ghost use Rattle.std.specs.Prelude.{◌≡◌, Bool, true, List, [], ◌++◌, ℕ, ◌+◌, ◌*◌, ◌^◌, ◌<◌, ◌≤◌, length, take, drop};
+ghost use Rattle.std.specs.Prelude.{◌≡◌, Bool, List, ◌++◌, ℕ, ◌+◌, ◌*◌, ◌^◌, ◌<◌, ◌≤◌, length, take, drop};
 ghost use Rattle.bits.specs.Bits.{bits, pack, octets_for};
-ghost use Rattle.definitions.specs.Frames.{frame_by};
-ghost use Rattle.links.specs.Sets.{combination_good};
-ghost use Rattle.links.specs.Calls.{subflows_good, joined, up_frame, written, up_call};
+ghost use Rattle.links.specs.Calls.{joined, up_frame, written, up_call};
+ghost use Rattle.uplink_judge.specs.Judging.{HasCore};
 ghost use Rattle.frame_builder.specs.Output.{IntoOutput};
 ghost use Rattle.uplink.specs.Subflows.{Joinable};
 ghost use Rattle.uplink.specs.Answers.{UpInto};
@@ -28,15 +27,14 @@ pub struct UpAnswer {
     pub link: Link,
 }
 
-// Puts a sub-flow behind the first `at` bits of a core, behind which there is nothing but the filling.
-fn append(s: &[u8], n: usize, core: &mut [u8], at: usize)
-    requires { (n ≤ 8 * length s.now) × (at + n ≤ 8 * length core.old) × (n < 65536) × (at < 2 ^ 31) }
-    ensures { (x : List Bool) (d : List ℕ) → length x ≡ at → core.old ≡ pack x ++ drop (octets_for at) d → core.new ≡ pack (x ++ take n (bits s.now)) ++ drop (octets_for (at + n)) d }
+// Puts a sub-flow behind the first `at` bits of a core, behind which there is nothing but the filling. Most third sub-flows have no bits.
+fn append(s: &[u8], size: u16, core: &mut [u8], at: usize)
+    requires { (size ≤ 8 * length s.now) × (at + size ≤ 8 * length core.old) × (at < 2 ^ 31) }
+    ensures { (x : List Bool) (d : List ℕ) → length x ≡ at → core.old ≡ pack x ++ drop (octets_for at) d → core.new ≡ pack (x ++ take size (bits s.now)) ++ drop (octets_for (at + size)) d }
 {
-    if n == 0 {
-        return;
+    if 0 < size {
+        bits::put_run(s, 0, usize::from(size), core, at);
     }
-    bits::put_run(s, 0, n, core, at);
 }
 
 // Puts the sub-flows one behind the other.
@@ -46,10 +44,9 @@ fn join(c: Combination, s: SubflowOctets<'_>, core: &mut [u8])
 {
     let n1 = usize::from(c.size1);
     let n2 = usize::from(c.size2);
-    let n3 = usize::from(c.size3);
-    append(s.s1, n1, core, 0);
-    append(s.s2, n2, core, n1);
-    append(s.s3, n3, core, n1 + n2);
+    append(s.s1, c.size1, core, 0);
+    append(s.s2, c.size2, core, n1);
+    append(s.s3, c.size3, core, n1 + n2);
 }
 
 // Makes the frame of types 0 to 9 of sub-flows that are right: joined, judged and written.
@@ -60,7 +57,7 @@ fn build_joined(
     s: SubflowOctets<'_>,
     out: &mut [u8],
 ) -> Result<usize, Refusal>
-    requires { (combination_good c ≡ true) × (c.frame_type ≤ 9) × (subflows_good c s.s1.now s.s2.now s.s3.now ≡ true) }
+    requires { HasCore c s.s1.now s.s2.now s.s3.now }
     ensures { IntoOutput (written (up_frame request fqc c s.entry.s1.now s.entry.s2.now s.entry.s3.now) (length out.old)) out.old out.new result }
 {
     let mut core = [0u8; CORE_MOST];
@@ -85,14 +82,6 @@ fn build_joined(
     Ok(n)
 }
 
-// A frame of type 15, which has no core.
-fn build_empty(quality: u8, out: &mut [u8]) -> Result<usize, Refusal>
-    requires { quality < 2 }
-    ensures { IntoOutput (written (frame_by 15 quality 0 0 []) (length out.old)) out.old out.new result }
-{
-    build(Format::If1, NO_DATA, u64::from(quality), 0, 0, &[], out)
-}
-
 // Makes an IF1 frame of three sub-flows, by FQC and RFCI. `pub` for level three, which has no use for the state handed on.
 pub fn join_frame(
     link: Link,
@@ -105,7 +94,7 @@ pub fn join_frame(
 {
     match judge(link, fqc, rfci, s)? {
         Judged::Core(c) => build_joined(link.request, fqc, c, s, out),
-        Judged::Empty(quality) => build_empty(quality, out),
+        Judged::Empty(quality) => build(Format::If1, NO_DATA, u64::from(quality), 0, 0, &[], out),
     }
 }
 

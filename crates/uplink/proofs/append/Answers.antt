@@ -1,17 +1,18 @@
 -- `uplink::append` meets its contract. Assumes nothing.
-use Rattle.bits.specs.Bits.{bits}
 use native.Mathlib.Omega.{arith}
 use lib.ListN.{take}
 use lib.Seq.{length-take-le}
+use Rattle.bits.specs.Bits.{bits}
 use Rattle.bits.proofs.BitLaws.{length-bits}
 use Rattle.uplink.proofs.UpLaws.{put-behind, none-behind}
 use Rattle.uplink.proofs.append.Goals as goal
 
-pub returns-then-n-eq0 : goal.returns-then-n-eq0
-returns-then-n-eq0 c = λ x d l e. let a = c.args in none-behind x (bits a.s.now) d a.core.now a.at a.n c.if-n-eq0.true e
-
-pub returns : goal.returns
-returns c =
+pub returns-then-size-gt0 : goal.returns-then-size-gt0
+returns-then-size-gt0 c =
     λ x d l e.
     let a = c.args in
-    put-behind x (take a.n (bits a.s.now)) d a.core.now _ a.at a.n (length-take-le a.n (bits a.s.now) (omega (arith, length-bits a.s.now, c.requires.0))) l e c.put_run.ensures
+    put-behind x (take a.size (bits a.s.now)) d a.core.now _ a.at a.size (length-take-le a.size (bits a.s.now) (omega (arith, length-bits a.s.now, c.requires.0))) l e
+    (rw c.from.ensures at c.put_run.ensures)
+
+pub returns-else-size-gt0 : goal.returns-else-size-gt0
+returns-else-size-gt0 c = λ x d l e. let a = c.args in none-behind x (bits a.s.now) d a.core.now a.at a.size (omega arith) e
