@@ -1,13 +1,13 @@
 // Viewing a recording, a frame a call (document 01, "Recordings and conversion", last paragraph). A `Viewer` carries the recording and the
-// place of the next frame. `view_open` and `view_next` are entries: they hand the place out and take it in. The other `pub` functions are for
-// programs in Rattle.
+// place of the next frame; it is for programs in Rattle. `view_open` and `view_next` are entries: they hand the place out and take it in.
 #![tactic(auto)]
 
-ghost use Rattle.std.specs.Prelude.{◌≡◌, ℕ, OnOk, length};
+ghost use Rattle.std.specs.Prelude.{◌≡◌, ℕ, IfOk, length};
 ghost use Rattle.definitions.specs.Outcome.{ok};
 ghost use Rattle.definitions.specs.Reading.{format_numbered};
 ghost use Rattle.recordings.specs.Viewer.{open_call, view_call};
 ghost use Rattle.frame.specs.Answers.{format_of};
+ghost use Rattle.recording_reader.specs.Answers.{placed_of};
 ghost use Rattle.viewer.specs.Answers.{place_of, opened_of, Nexts, ViewsInto};
 
 use frame::{Format, FrameHeader, Refusal};
@@ -30,6 +30,26 @@ pub struct Viewer<'a> {
 }
 
 impl<'a> Viewer<'a> {
+    // Opens a recording, at its first frame.
+    #[tactic(auto, unfolding(recordings::specs::Viewer::open_call))]
+    pub fn open(format: u64, rec: &'a [u8]) -> Result<Viewer<'a>, RefusedAt>
+        ensures place { placed_of (λ v. place_of v.place) result ≡ open_call format rec.now }
+        ensures over { IfOk result (λ v. (v.rec ≡ rec.entry) × (format_numbered format ≡ ok (format_of v.format))) }
+    {
+        let f = Format::try_from(format)?;
+        if LIMIT < rec.len() {
+            return Err(Refusal::TooLong.into());
+        }
+        if !headed(f, rec) {
+            return Err(Refusal::StorageHeader.into());
+        }
+        let first = Place {
+            number: 0,
+            offset: header_octets(f) as u64,
+        };
+        Ok(Viewer::new(rec, f, first))
+    }
+
     // A viewer at a place.
     pub fn new(rec: &'a [u8], format: Format, place: Place) -> Viewer<'a>
         ensures { (result.rec ≡ rec.entry) × (result.format ≡ format) × (result.place ≡ place) }
@@ -38,6 +58,7 @@ impl<'a> Viewer<'a> {
     }
 
     // The next frame with the place behind it, or the end.
+    #[tactic(auto, using(crate::proofs::NextLaws::viewed), unfolding(recordings::specs::Viewer::next_call))]
     pub fn next(&self) -> Result<Option<(FrameHeader, Place)>, RefusedAt>
         ensures { (n : ℕ) → format_numbered n ≡ ok (format_of self.now.format) → Nexts n self.now.place.offset self.now.place.number self.now.rec.now result }
     {
@@ -75,6 +96,7 @@ impl<'a> Viewer<'a> {
 }
 
 // The next frame, for a caller that has no viewer.
+#[tactic(auto, using(crate::proofs::NextLaws::viewed), unfolding(recordings::specs::Viewer::next_call))]
 pub fn next_of(format: u64, place: Place, rec: &[u8]) -> Result<Option<(FrameHeader, Place)>, RefusedAt>
     ensures { Nexts format place.offset place.number rec.now result }
 {
@@ -85,17 +107,7 @@ pub fn next_of(format: u64, place: Place, rec: &[u8]) -> Result<Option<(FrameHea
 pub fn view_open(format: u64, rec: &[u8]) -> Result<Place, RefusedAt>
     ensures { opened_of result ≡ open_call format rec.now }
 {
-    let f = Format::try_from(format)?;
-    if LIMIT < rec.len() {
-        return Err(Refusal::TooLong.into());
-    }
-    if !headed(f, rec) {
-        return Err(Refusal::StorageHeader.into());
-    }
-    Ok(Place {
-        number: 0,
-        offset: header_octets(f) as u64,
-    })
+    Ok(Viewer::open(format, rec)?.place)
 }
 
 // The next frame with the place behind it, its packed core put into a buffer; or the end. An entry.
