@@ -25,7 +25,7 @@ pub struct DownAnswer {
 
 // Splits a frame that was read, with the header `h`.
 fn split_read(
-    link: Link,
+    link: &Link,
     h: FrameHeader,
     frame: &[u8],
     s1: &mut [u8],
@@ -33,7 +33,7 @@ fn split_read(
     s3: &mut [u8],
 ) -> Result<Subflows, Refusal>
     requires { octets if1 h.frame_type ≤ length frame.now }
-    ensures { SplitInto (down_frame link (frame_with h (core_in if1 h.frame_type (bits frame.now))) (length s1.old) (length s2.old) (length s3.old)) s1.old s1.new s2.old s2.new s3.old s3.new result }
+    ensures { SplitInto (down_frame link.now (frame_with h (core_in if1 h.frame_type (bits frame.now))) (length s1.old) (length s2.old) (length s3.old)) s1.old s1.new s2.old s2.new s3.old s3.new result }
 {
     let c = lookup_type(&link.set, h.frame_type).ok_or(Refusal::NotInSet)?;
     if !is_roomy(c, s1.len(), s2.len(), s3.len()) {
@@ -66,7 +66,7 @@ pub fn split_frame(
         return Err(Refusal::NoSet);
     }
     let (h, _) = read_if1(frame)?;
-    split_read(link, h, frame, s1, s2, s3)
+    split_read(&link, h, frame, s1, s2, s3)
 }
 
 // The last request forwarded after an answer. `pub` for level three.
@@ -74,10 +74,8 @@ pub fn forwarded_after(last: u16, d: Result<Subflows, Refusal>) -> u16
     ensures { (l : Link) → l.forwarded ≡ last → link_by l.set l.request result ≡ next_link (down_of d) l }
 {
     match d {
-        Ok(Subflows {
-            forward: Some(r), ..
-        }) => u16::from(r),
-        _ => last,
+        Ok(s) => s.forward.map_or(last, |r| u16::from(r)),
+        Err(_) => last,
     }
 }
 
