@@ -44,32 +44,27 @@ fn speech_class(good: bool) -> SpeechClass
 fn sid_class(good: bool, sti: bool) -> SidClass
     ensures { sid_of result ≡ sid_class good sti }
 {
-    if !good {
-        return SidClass::Bad;
+    match (good, sti) {
+        (false, _) => SidClass::Bad,
+        (true, false) => SidClass::First,
+        (true, true) => SidClass::Update,
     }
-    if sti {
-        return SidClass::Update;
-    }
-    SidClass::First
 }
 
 // The class of a type that is known. `pub` for the crate that counts a recording's frames.
 pub fn class_of(t: u64, good: bool, sti: bool) -> Reception
     ensures { reception_of result ≡ class_of t good sti }
 {
-    if t <= LAST_SPEECH {
-        return Reception::Speech(speech_class(good));
+    match t {
+        0..=LAST_SPEECH => Reception::Speech(speech_class(good)),
+        SID => Reception::Sid(sid_class(good, sti)),
+        SPEECH_LOST => Reception::SpeechLost,
+        _ => Reception::NoData,
     }
-    if t == SID {
-        return Reception::Sid(sid_class(good, sti));
-    }
-    if t == SPEECH_LOST {
-        return Reception::SpeechLost;
-    }
-    Reception::NoData
 }
 
 // The class by numbers.
+#[tactic(auto, unfolding(definitions::specs::Reception::reception_class))]
 pub fn reception_class(t: u64, q: u64, sti: u64) -> Result<Reception, Refusal>
     ensures { classified_of result ≡ reception_class t q sti }
 {

@@ -1,30 +1,12 @@
 -- `reception::reception_class` meets its contract: the numbers, then the type, then its class. Assumes nothing.
 use mathlib.Core.Path.{sym, ap, ◌∙◌}
 use native.Mathlib.Omega.{arith}
-use borrow.Author.Tests.{le-leb, lt-leb}
+use borrow.Author.Tests.{le-leb}
 use Rattle.definitions.specs.Outcome.{ok}
 use Rattle.definitions.specs.Frames.{if2}
 use Rattle.definitions.specs.Reception.{reception_class}
 use Rattle.frame.proofs.TableLaws.{no_octets_reserved, octets_not_reserved}
 use Rattle.reception.proofs.reception_class.Goals as goal
-
-pub returns-then-t-gt15 : goal.returns-then-t-gt15
-unfolding reception_class
-returns-then-t-gt15 c =
-    let a = c.args in
-    rw (lt-leb a.t 15 c.if-t-gt15.true)
-
-pub returns-then-q-gt1 : goal.returns-then-q-gt1
-unfolding reception_class
-returns-then-q-gt1 c =
-    let a = c.args in
-    rw (le-leb a.t 15 c.if-t-gt15.false, lt-leb a.q 1 c.if-q-gt1.true)
-
-pub returns-then-sti-gt1 : goal.returns-then-sti-gt1
-unfolding reception_class
-returns-then-sti-gt1 c =
-    let a = c.args in
-    rw (le-leb a.t 15 c.if-t-gt15.false, le-leb a.q 1 c.if-q-gt1.false, lt-leb a.sti 1 c.if-sti-gt1.true)
 
 pub returns-then-octets_of-eq0 : goal.returns-then-octets_of-eq0
 unfolding reception_class
@@ -48,4 +30,4 @@ returns c =
       le-leb a.q 1 c.if-q-gt1.false,
       le-leb a.sti 1 c.if-sti-gt1.false,
       octets_not_reserved if2 a.t (omega arith) (λ z. c.if-octets_of-eq0.false (n.ensures.0 ∙ z)),
-    ) (ap ok c.class_of-class.ensures)
+    ) (ap ok c.class_of.ensures)
