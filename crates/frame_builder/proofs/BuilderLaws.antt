@@ -16,12 +16,10 @@ use Rattle.definitions.specs.Reading.{buffer_core, core_fill_clear, frame_of, bu
 use Rattle.definitions.proofs.Tables.{core-most}
 use Rattle.definitions.proofs.Frames.{size-layout, fields_are_good}
 use Rattle.definitions.proofs.Claims.{check_known}
-use Rattle.frame.specs.Answers.{number_of, frame_with, reading_of}
+use Rattle.frame.specs.Answers.{number_of, frame_with, built_of}
 use Rattle.frame.specs.declared.FrameHeader.{FrameHeader}
 use Rattle.frame.specs.declared.Refusal.{Refusal}
-use Rattle.frame.specs.declared.Reading.{Reading}
-use Rattle.frame.specs.declared.Reading.TheVariants.{Frame as FrameRead, Refused}
-use Rattle.frame.specs.declared.Built.TheVariants as built
+use Rattle.std.specs.Prelude.{Result, Ok, Err}
 use Rattle.frame.proofs.TableLaws.{no_octets_reserved, sid-core}
 use Rattle.frame_writer.specs.Writing.{run_frame, Writable}
 use Rattle.frame_builder.specs.Output.{IntoOutput}
@@ -99,20 +97,20 @@ modes_fit f x h = let g = fields_are_good f x h in (g.indication, g.request)
 
 -- ---- `build`
 
-module _ (f : Format) (t q i r : ℕ) (c d₀ : List ℕ) (a : Reading) (ea : reading_of (buffer_core c) a ≡ build_check f t q i r c (length d₀)) where
-  pub refused-build : (e : Refusal) → a ≡ Refused e → IntoOutput (build_frame f t q i r c (length d₀)) d₀ d₀ (built.Refused e)
-  refused-build e er =
-      let o : refused (number_of e) ≡ build_frame f t q i r c (length d₀) =
-      ap (λ o. and_then o (λ y. ok (layout f y.0))) (sym (ap (reading_of (buffer_core c)) er) ∙ ea) in
-      record { answer = ap counted o; buffer = ap (λ o. output_after o d₀) o }
+module _ (f : Format) (t q i r : ℕ) (c d₀ : List ℕ) where
+  pub refused-build : (a : Result ℕ Refusal) (e : Refusal) → a ≡ Err e → refused (number_of e) ≡ build_check f t q i r c (length d₀)
+      → IntoOutput (build_frame f t q i r c (length d₀)) d₀ d₀ a
+  refused-build a e ae er =
+      let o : refused (number_of e) ≡ build_frame f t q i r c (length d₀) = ap (λ o. and_then o (λ y. ok (layout f y.0))) er in
+      record { answer = ap built_of ae ∙ ap counted o; buffer = ap (λ o. output_after o d₀) o }
 
-  module _ (h : FrameHeader) (n : ℕ) (eh : a ≡ FrameRead h n) where
+  module _ (h : FrameHeader) (n : ℕ) (ea : ok (frame_with h (buffer_core c h.frame_type), n) ≡ build_check f t q i r c (length d₀)) where
     x : Frame
     x = frame_with h (buffer_core c h.frame_type)
 
     check_is : build_check f t q i r c (length d₀) ≡ ok (x, n)
     unfolding x
-    check_is = sym ea ∙ ap (reading_of (buffer_core c)) eh
+    check_is = sym ea
 
     same : ◌≡◌ {A = Frame × ℕ} (frame_of t q i r c, octets f t) (x, n)
     same = (check_known f t q i r c (length d₀) (x, n) check_is).shown
@@ -143,7 +141,7 @@ module _ (f : Format) (t q i r : ℕ) (c d₀ : List ℕ) (a : Reading) (ea : re
         }
 
     pub built_frame : (d : List ℕ) → d ≡ layout f (run_frame h c 0) ++ drop (octets f h.frame_type) d₀
-        → IntoOutput (build_frame f t q i r c (length d₀)) d₀ d (built.Octets n)
+        → IntoOutput (build_frame f t q i r c (length d₀)) d₀ d (Ok n)
     unfolding x
     built_frame d e =
         let p = check_known f t q i r c (length d₀) (x, n) check_is in

@@ -19,10 +19,7 @@ pub fn core_fill_clear(core: &[u8], k: usize) -> bool
     ensures { result ≡ clear (8 * length core.now - k) (drop k (bits core.now)) }
 {
     let n = core.len();
-    if n == 0 {
-        return true;
-    }
-    bits::low_bits(core, n, 8 * n - k) == 0
+    n == 0 || bits::low_bits(core, n, 8 * n - k) == 0
 }
 
 // Refusal 6's test of a frame to be built. `pub` for Up.
@@ -30,20 +27,16 @@ pub fn core_fields_good(f: Format, t: u64, i: u64, r: u64, core: &[u8]) -> bool
     requires { length core.now ≡ octets_for (core_bits t) }
     ensures { (q : ℕ) → result ≡ fields_good (format_of f) (frame_by t q i r (buffer_core core.now t)) }
 {
-    if t == SID {
-        return fields_good(f, t, i, r, bits::field_at(core, SID_MODE_AT, 4) as u64);
-    }
-    fields_good(f, t, i, r, 0)
+    let mode = if t == SID { bits::field_at(core, SID_MODE_AT, 4) } else { 0 };
+    fields_good(f, t, i, r, u64::from(mode))
 }
 
 // The tests of a building call, in document 01's order.
+#[tactic(auto, unfolding(definitions::specs::Reading::build_check))]
 fn judge(f: Format, t: u64, q: u64, i: u64, r: u64, core: &[u8], room: usize) -> Result<(FrameHeader, usize), Refusal>
     ensures { reading_of (buffer_core core.now) result ≡ build_check (format_of f) t q i r core.now room }
 {
-    if 15 < t {
-        return Err(Refusal::ArgumentRange);
-    }
-    if 1 < q {
+    if 15 < t || 1 < q {
         return Err(Refusal::ArgumentRange);
     }
     let n = octets_of(f, t as usize);

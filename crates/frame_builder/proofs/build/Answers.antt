@@ -1,24 +1,20 @@
 -- `frame_builder::build` meets its contract: what is judged good is written, and nothing else. Assumes nothing.
+use Rattle.std.proofs.Common.{rules}
 use Rattle.frame.specs.Answers.{format_of}
 use Rattle.frame_builder.proofs.BuilderLaws.{refused-build, writable, built_frame}
 use Rattle.frame_builder.proofs.build.Goals as goal
 
+pub returns-in_err-h : goal.returns-in_err-h
+returns-in_err-h c =
+    let a = c.args in
+    refused-build (format_of a.f) a.t a.q a.i a.r a.core.now a.out.now _ c.in_err-h.field-0.0 (search rules) c.in_err-h.ensures
+
 pub write_frame-requires : goal.write_frame-requires
 write_frame-requires c =
     let a = c.args in
-    let j = c.judge in
-    writable (format_of a.f) a.t a.q a.i a.r a.core.now a.out.now j.result j.ensures c.in-Frame.h c.in-Frame.n c.in-Frame.is
+    writable (format_of a.f) a.t a.q a.i a.r a.core.now a.out.now c.in_ok-h.h c.in_ok-h.n c.in_ok-h.ensures
 
-pub returns-in-Frame : goal.returns-in-Frame
-returns-in-Frame c =
+pub returns : goal.returns
+returns c =
     let a = c.args in
-    let j = c.judge in
-    let w = c.write_frame in
-    built_frame (format_of a.f) a.t a.q a.i a.r a.core.now a.out.now j.result j.ensures c.in-Frame.h c.in-Frame.n c.in-Frame.is
-    w.new.out w.ensures
-
-pub returns-in-Refused : goal.returns-in-Refused
-returns-in-Refused c =
-    let a = c.args in
-    let j = c.judge in
-    refused-build (format_of a.f) a.t a.q a.i a.r a.core.now a.out.now j.result j.ensures c.in-Refused.e c.in-Refused.is
+    built_frame (format_of a.f) a.t a.q a.i a.r a.core.now a.out.now c.in_ok-h.h c.in_ok-h.n c.in_ok-h.ensures c.write_frame.new.out c.write_frame.ensures

@@ -10,7 +10,7 @@ use Rattle.definitions.specs.Frames.{Format, known, octets, core_bits}
 use Rattle.definitions.specs.Reading.{core_fill_clear}
 use Rattle.frame.specs.Answers.{format_of}
 use Rattle.frame.proofs.TableLaws.{octets_not_reserved}
-use Rattle.frame_builder.proofs.BuilderLaws.{Measured, type_high, quality_high, type_reserved, core-length_wrong, fill_wrong, fields_wrong, output_short, builds, modes_fit}
+use Rattle.frame_builder.proofs.BuilderLaws.{Measured, type_reserved, core-length_wrong, fill_wrong, fields_wrong, output_short, builds, modes_fit}
 use Rattle.frame_builder.proofs.judge.Goals as goal
 
 -- the type is known once its octets are not 0
@@ -28,16 +28,6 @@ measured_there f t q n k core ht hq en z ek l = record {
 
 fill_there : (t k : ℕ) (core : List ℕ) (r : Bool) → r ≡ clear (8 * length core - k) (drop k (bits core)) → k ≡ core_bits t → r ≡ core_fill_clear t core
 fill_there t k core r e ek = e ∙ ap (λ k. clear (8 * length core - k) (drop k (bits core))) ek
-
-pub returns-then-t-gt15 : goal.returns-then-t-gt15
-returns-then-t-gt15 c =
-    let a = c.args in
-    type_high (format_of a.f) a.t a.q a.i a.r a.core.now a.room c.if-t-gt15.true
-
-pub returns-then-q-gt1 : goal.returns-then-q-gt1
-returns-then-q-gt1 c =
-    let a = c.args in
-    quality_high (format_of a.f) a.t a.q a.i a.r a.core.now a.room c.if-t-gt15.false c.if-q-gt1.true
 
 pub returns-then-n-eq0 : goal.returns-then-n-eq0
 returns-then-n-eq0 c =
