@@ -2,32 +2,40 @@
 use mathlib.Core.Path.{◌≡◌, refl, sym, ap, ap₂, ◌∙◌, subst}
 use mathlib.Core.Bool.{Bool, true, false, not, ◌&&◌}
 use mathlib.Core.Logic.{◌≢◌}
-use mathlib.Core.List.{List, ◌++◌}
+use mathlib.Core.List.{List, [], ◌++◌, append-nil}
 use Prim.Native.Nat.{ℕ, ◌+◌, ◌-◌, ◌*◌, ◌<◌, ◌≤◌}
 use native.Mathlib.Omega.{arith}
 use lib.Dec.{eqb, leb}
-use lib.ListN.{length, take, drop, replicate, length-take, length-drop, take-append-drop}
+use lib.ListN.{length, take, drop, replicate, length-take, length-drop, take-append-drop, drop_of_length-le}
+use borrow.Rule.Slice.PartMut.{put_mid}
+use Rattle.std.proofs.lemmas.List.{take_rest}
 use lib.Seq.{drop-drop, drop-append-le}
 use borrow.Author.Tests.{eqb-true, leb-true, le-leb}
-use Rattle.bits.specs.Bits.{bits, packs, one_if, Octets, copied}
-use Rattle.bits.proofs.BitLaws.{length-bits}
+use Rattle.bits.specs.Bits.{bits, packs, one_if}
+use Rattle.bits.proofs.BitLaws.{bits-drop}
 use Rattle.bits.proofs.Tests.{and_left, and_right, every_below_lem}
 use Rattle.definitions.specs.Frames.{Format, if1, if2, storage, Frame, known, core_bits, octets, core_octets, header_bits, fill_bits}
 use Rattle.definitions.specs.Claims.{Begins}
 use Rattle.definitions.proofs.Frames.{after-header, bits-layout}
 use Rattle.frame.proofs.TableLaws.{room}
-use Rattle.core_mover.specs.Carriable.{is_if2, core_at, behind, Ends, Carriable}
-use Rattle.core_mover.proofs.PackLaws.{packs_padded, copied-octets}
+use Rattle.frame.specs.Answers.{format_of}
+use Rattle.frame.specs.contracts.Format.{the_type}
+use Rattle.frame.specs.declared.Format.{Format as CodeFormat}
+use Rattle.frame.specs.declared.Format.TheVariants.{If1, If2, Storage}
+use denote.Enum.Bare.{sameb}
+use Rattle.core_mover.specs.Carriable.{core_at, behind, Ends, Carriable}
 
--- ---- whether a format is IF2
+-- ---- whether a format is IF2, as `==` tells
 
-pub if2_is : (f : Format) → is_if2 f ≡ true → f ≡ if2
-if2_is if1 e = absurd (let z : ◌≡◌ {A = ℕ} 0 1 = cc in omega arith)
-if2_is if2 e = refl
-if2_is storage e = absurd (let z : ◌≡◌ {A = ℕ} 0 1 = cc in omega arith)
+pub if2_is : (f : CodeFormat) → sameb the_type f If2 ≡ true → format_of f ≡ if2
+if2_is If1 e = cc
+if2_is If2 e = refl
+if2_is Storage e = cc
 
-pub if2_not : (f : Format) → is_if2 f ≡ false → f ≢ if2
-if2_not f e q = let b : true ≡ false = ap is_if2 (sym q) ∙ e in absurd (let z : ◌≡◌ {A = ℕ} 0 1 = cc in omega arith)
+pub if2_not : (f : CodeFormat) → sameb the_type f If2 ≡ false → format_of f ≢ if2
+if2_not If1 e = λ q. cc
+if2_not If2 e = cc
+if2_not Storage e = λ q. cc
 
 -- ---- sizes
 
@@ -138,125 +146,129 @@ module _ (f g : Format) (t : ℕ) (src out : List ℕ) (x : Frame) (h : t ≤ 9)
     pub whole-filled : length x.core + fill_bits f t ≡ 8 * core_octets t
     whole-filled = let a = aligned_header f t n h in omega (arith, core_long, filled, a.0, a.1)
 
-    pub whole-ends : Ends src (core_at f) 3 (core_octets t - 1) (drop 3 x.core) (fill_bits f t) after
-    whole-ends = record {
-      stream =
-          sym (drop-drop 3 (8 * core_at f) (bits src)) ∙ ap (drop 3) whole-stream
-          ∙ drop-append-le 3 x.core (replicate (fill_bits f t) false ++ after) (omega (arith, core_long, (sizes t h).three));
+    from-core : bits (drop (core_at f) src) ≡ x.core ++ (replicate (fill_bits f t) false ++ after)
+    from-core = bits-drop (core_at f) src ∙ whole-stream
+
+    -- from its first bit, and from its fourth
+    pub whole-ends : Ends (drop (core_at f) src) 0 (core_octets t - 1) x.core (fill_bits f t) after
+    whole-ends = record { stream = from-core; border = omega (arith, whole-filled, (sizes t h).some); }
+
+    pub fourth-ends : Ends (drop (core_at f) src) 3 (core_octets t - 1) (drop 3 x.core) (fill_bits f t) after
+    fourth-ends = record {
+      stream = ap (drop 3) from-core ∙ drop-append-le 3 x.core (replicate (fill_bits f t) false ++ after) (omega (arith, core_long, (sizes t h).three));
       border = omega (arith, whole-filled, core_long, (sizes t h).three, (sizes t h).some, length-drop 3 x.core);
     }
 
 pub if2_ends : (g : Format) (t : ℕ) (src out : List ℕ) (x : Frame) (h : t ≤ 9) (ex : x.type ≡ t) (c : Carriable if2 g src x out)
-    → Ends src 0 5 (octets if2 t - 1) x.core (fill_bits if2 t) (after if2 g t src out x h ex c)
+    → Ends src 5 (octets if2 t - 1) x.core (fill_bits if2 t) (after if2 g t src out x h ex c)
 if2_ends g t src out x h ex c = record {
   stream = stream if2 g t src out x h ex c;
   border = omega (arith, filled if2 g t src out x h ex c, core_long if2 g t src out x h ex c, (sizes t h).some, (sizes t h).in_if2, (sizes t h).one);
 }
 
--- ---- moves to IF2 and from it
+-- ---- moves
 
--- how a core of type t is moved to IF2 or from it: c octets from bit a of the source's octet i on, and one more where last is so, to octet j
-pub record Moves (f g : Format) (t i a c : ℕ) (last : Bool) (j : ℕ) : Type 0 where
-  pub start : j ≡ core_at g
-  pub count : j + (c + one_if last) ≡ octets g t
+-- how a core of type t is moved: c octets from bit a of the source's octet i on, and one more where last is so, to where it begins in the target
+pub record Moves (f g : Format) (t i a c : ℕ) (last : Bool) : Type 0 where
+  pub count : core_at g + (c + one_if last) ≡ octets g t
   pub inside : i + c < octets f t
-  pub near : (i ≤ 3) × (j ≤ 3) × (c ≤ 64)
-  pub ends : (src out : List ℕ) (x : Frame) → x.type ≡ t → Carriable f g src x out → (z : ℕ) × (r : List Bool) × Ends src i a c (behind g x.core) z r
+  pub few : c ≤ 64
+  pub ends : (src out : List ℕ) (x : Frame) → x.type ≡ t → Carriable f g src x out → (z : ℕ) × (r : List Bool) × Ends (drop i src) a c (behind g x.core) z r
 
--- ---- what the movers ask and give, by the code's numbers: m octets of core, n in IF2, the core from octet i or j on
+module _ (t : ℕ) (h : t ≤ 9) where
+  pub some-octet : (1 ≤ core_octets t) × (1 ≤ octets if2 t)
+  some-octet = let s = sizes t h in (s.some, omega (arith, s.some, s.in_if2, s.one))
 
-module _ (t m n : ℕ) (h : t ≤ 9) (em : m ≡ core_octets t) (en : n ≡ octets if2 t) where
-  pub some-octet : (1 ≤ m) × (1 ≤ n)
-  some-octet = let s = sizes t h in (omega (arith, em, s.some), omega (arith, s.some, s.in_if2, s.one))
-
-  -- to IF2
-  up_move : (f : Format) → f ≢ if2 → Moves f if2 t (core_at f) 3 (m - 1) (not (eqb t 1)) 1
-  up_move f nf =
+  up : (f : Format) → f ≢ if2 → Moves f if2 t (core_at f) 3 (core_octets t - 1) (not (eqb t 1))
+  up f nf =
       let s = sizes t h in
-      let b = core_at_most f in
       let a = aligned_header f t nf h in
       record {
-        start = refl;
-        count = omega (arith, em, s.some, s.in_if2, s.one);
-        inside = omega (arith, em, a.1, s.some);
-        near = (b, omega arith, omega (arith, em, s.few));
-        ends = λ src out x ex c. (
-          fill_bits f t,
-          after f if2 t src out x h ex c,
-          subst (λ q. Ends src (core_at f) 3 (q - 1) (drop 3 x.core) (fill_bits f t) (after f if2 t src out x h ex c)) (sym em) (whole-ends f if2 t src out x h ex c nf),
-        );
+        count = omega (arith, s.some, s.in_if2, s.one);
+        inside = omega (arith, a.1, s.some);
+        few = omega (arith, s.few);
+        ends = λ src out x ex c. (fill_bits f t, after f if2 t src out x h ex c, fourth-ends f if2 t src out x h ex c nf);
       }
 
-  pub moves_up : (f : Format) (i : ℕ) → f ≢ if2 → i ≡ core_at f → Moves f if2 t i 3 (m - 1) (not (eqb t 1)) 1
-  moves_up f i nf e = subst (λ i. Moves f if2 t i 3 (m - 1) (not (eqb t 1)) 1) (sym e) (up_move f nf)
-
-  -- from IF2
-  down_move : (g : Format) → g ≢ if2 → Moves if2 g t 0 5 (n - 1) (eqb t 1) (core_at g)
-  down_move g ng =
+  down : (g : Format) → g ≢ if2 → Moves if2 g t 0 5 (octets if2 t - 1) (eqb t 1)
+  down g ng =
       let s = sizes t h in
-      let b = core_at_most g in
       let a = aligned_header g t ng h in
       record {
-        start = refl;
-        count = omega (arith, a.1, s.some, s.in_if2, s.one, en);
-        inside = omega (arith, some-octet.1, en);
-        near = (omega arith, b, omega (arith, s.in_if2, s.few, en));
+        count = omega (arith, a.1, s.some, s.in_if2, s.one);
+        inside = omega (arith, some-octet.1);
+        few = omega (arith, s.in_if2, s.few);
         ends = λ src out x ex c. (
           fill_bits if2 t,
           after if2 g t src out x h ex c,
-          subst (λ w. Ends src 0 5 (n - 1) w (fill_bits if2 t) (after if2 g t src out x h ex c)) (sym (behind-whole g x.core ng))
-              (subst (λ q. Ends src 0 5 (q - 1) x.core (fill_bits if2 t) (after if2 g t src out x h ex c)) (sym en) (if2_ends g t src out x h ex c)),
+          subst (λ w. Ends src 5 (octets if2 t - 1) w (fill_bits if2 t) (after if2 g t src out x h ex c)) (sym (behind-whole g x.core ng)) (if2_ends g t src out x h ex c),
         );
       }
 
-  pub moves_down : (g : Format) (j : ℕ) → g ≢ if2 → j ≡ core_at g → Moves if2 g t 0 5 (n - 1) (eqb t 1) j
-  moves_down g j ng e = subst (Moves if2 g t 0 5 (n - 1) (eqb t 1)) (sym e) (down_move g ng)
+  whole : (f g : Format) → f ≢ if2 → g ≢ if2 → Moves f g t (core_at f) 0 (core_octets t - 1) true
+  whole f g nf ng =
+      let s = sizes t h in
+      let a = aligned_header f t nf h in
+      let b = aligned_header g t ng h in
+      record {
+        count = omega (arith, b.1, s.some);
+        inside = omega (arith, a.1, s.some);
+        few = omega (arith, s.few);
+        ends = λ src out x ex c. (
+          fill_bits f t,
+          after f g t src out x h ex c,
+          subst (λ w. Ends (drop (core_at f) src) 0 (core_octets t - 1) w (fill_bits f t) (after f g t src out x h ex c)) (sym (behind-whole g x.core ng)) (whole-ends f g t src out x h ex c nf),
+        );
+      }
 
-  module _ (f g : Format) (i j : ℕ) (src out : List ℕ) (x : Frame) (nf : f ≢ if2) (ng : g ≢ if2) (ei : i ≡ core_at f) (ej : j ≡ core_at g) (ex : x.type ≡ t)
-      (c : Carriable f g src x out) where
-    pub over_asks : (m ≤ 64) × (i + m ≤ length src) × (j + m ≤ length out)
-    over_asks = (
-      omega (arith, em, (sizes t h).few),
-      omega (arith, em, (aligned_header f t nf h).1, source_long f g t src out x h ex c),
-      omega (arith, em, (aligned_header g t ng h).1, room-there f g t src out x h ex c),
-    )
+  -- the same by the code's numbers: the source's octet i, and n octets of core, or of the IF2 frame
+  pub moves_up : (f g : Format) (i n : ℕ) → g ≡ if2 → f ≢ if2 → i ≡ core_at f → n ≡ core_octets t → Moves f g t i 3 (n - 1) (not (eqb t 1))
+  moves_up f g i n eg nf ei en = rw (eg, ei, en) (up f nf)
 
-    pub over-gives : (d : List ℕ) → Octets out → Octets d
-        → bits d ≡ copied (bits out) (8 * j) (drop (8 * i) (bits src)) (8 * m)
-        → d ≡ take (core_at g) out ++ (packs (octets g t - core_at g) (behind g x.core) ++ drop (octets g t) out)
-    over-gives d o₀ o e =
-        let w = x.core in
-        let a = (aligned_header g t ng h).1 in
-        let p : core_octets t ≡ octets g t - core_at g = omega (arith, a) in
-        let s : drop (8 * i) (bits src) ≡ w ++ (replicate (fill_bits f t) false ++ after f g t src out x h ex c) =
-        ap (λ q. drop (8 * q) (bits src)) ei ∙ whole-stream f g t src out x h ex c nf in
-        let l : 8 * core_octets t ≤ length (drop (8 * i) (bits src)) =
-        omega (arith, length-drop (8 * i) (bits src), length-bits src, over_asks.1, em) in
-        copied-octets d out j (core_octets t) (drop (8 * i) (bits src)) o o₀ l
-        (e ∙ ap (λ q. copied (bits out) (8 * j) (drop (8 * i) (bits src)) (8 * q)) em)
-        ∙ ap (λ v. take j out ++ (v ++ drop (j + core_octets t) out))
-        (ap (packs (core_octets t)) s ∙ packs_padded (core_octets t) w (fill_bits f t) _ (omega (arith, whole-filled f g t src out x h ex c nf)))
-        ∙ ap (λ b. take b out ++ (packs (core_octets t) w ++ drop (b + core_octets t) out)) ej
-        ∙ ap₂ (λ q b. take (core_at g) out ++ (packs q w ++ drop b out)) p (sym a)
-        ∙ ap (λ w. take (core_at g) out ++ (packs (octets g t - core_at g) w ++ drop (octets g t) out)) (sym (behind-whole g w ng))
+  pub moves_down : (f g : Format) (n : ℕ) → f ≡ if2 → g ≢ if2 → n ≡ octets if2 t → Moves f g t 0 5 (n - 1) (eqb t 1)
+  moves_down f g n ef ng en = rw (ef, en) (down g ng)
 
--- ---- what a move asks and gives
+  pub moves_whole : (f g : Format) (i n : ℕ) → f ≢ if2 → g ≢ if2 → i ≡ core_at f → n ≡ core_octets t → Moves f g t i 0 (n - 1) true
+  moves_whole f g i n nf ng ei en = rw (ei, en) (whole f g nf ng)
 
-module _ (f g : Format) (t i a c : ℕ) (last : Bool) (j : ℕ) (h : t ≤ 9) (m : Moves f g t i a c last j) (src out : List ℕ) (x : Frame) (ex : x.type ≡ t) (v : Carriable f g src x out) where
-  pub shifted_asks : (i + c < length src) × (j + c + one_if last ≤ length out) × ((i ≤ 3) × (j ≤ 3) × (c ≤ 64))
-  shifted_asks = (
-    omega (arith, m.inside, source_long f g t src out x h ex v),
-    omega (arith, m.count, room-there f g t src out x h ex v),
-    m.near,
+-- the code begins within both slices
+core_inside : (f : Format) (t : ℕ) → t ≤ 9 → core_at f ≤ octets f t
+core_inside if1 t h = omega (arith, (sizes t h).in_if1)
+core_inside if2 t h = (some-octet t h).1
+core_inside storage t h = omega (arith, (sizes t h).in_storage)
+
+pub within : (f g : Format) (t : ℕ) (src out : List ℕ) (x : Frame) → t ≤ 9 → x.type ≡ t → Carriable f g src x out → (core_at f ≤ length src) × (core_at g ≤ length out)
+within f g t src out x h ex c = (
+  omega (arith, core_inside f t h, source_long f g t src out x h ex c),
+  omega (arith, core_inside g t h, room-there f g t src out x h ex c),
+)
+
+-- ---- what a move asks and gives: s is the source from octet i on, and j where the core begins in the target
+
+module _ (f g : Format) (t i a c : ℕ) (last : Bool) (h : t ≤ 9) (m : Moves f g t i a c last) (s src out : List ℕ) (j : ℕ) (es : s ≡ drop i src) (ej : j ≡ core_at g)
+    (x : Frame) (ex : x.type ≡ t) (v : Carriable f g src x out) where
+  to : take (length out - j) (drop j out) ≡ drop (core_at g) out
+  to = take_rest out j ∙ ap (λ k. drop k out) ej
+
+  pub move_asks : a < 8 → (a < 8) × (c < length s) × (c + one_if last ≤ length (take (length out - j) (drop j out))) × (c ≤ 64)
+  move_asks ha = (
+    ha,
+    omega (arith, ap length es, length-drop i src, m.inside, source_long f g t src out x h ex v),
+    omega (arith, ap length to, length-drop (core_at g) out, m.count, room-there f g t src out x h ex v),
+    m.few,
   )
 
-  pub shifted_gives : (d : List ℕ)
-      → ((w : List Bool) (z : ℕ) (r : List Bool) → Ends src i a c w z r → d ≡ take j out ++ (packs (c + one_if last) w ++ drop (j + (c + one_if last)) out))
-      → d ≡ take (core_at g) out ++ (packs (octets g t - core_at g) (behind g x.core) ++ drop (octets g t) out)
-  shifted_gives d e =
+  pub move_gives : (d : List ℕ)
+      → ((w : List Bool) (z : ℕ) (r : List Bool) → Ends s a c w z r → d ≡ packs (c + one_if last) w ++ drop (c + one_if last) (take (length out - j) (drop j out)))
+      → put_mid j (length out - j) out d ≡ take (core_at g) out ++ (packs (octets g t - core_at g) (behind g x.core) ++ drop (octets g t) out)
+  move_gives d e =
       let q = m.ends src out x ex v in
       let w = behind g x.core in
-      let p : c + one_if last ≡ octets g t - core_at g = omega (arith, m.count, m.start) in
-      e w q.0 q.1 q.2
-      ∙ ap₂ (λ b o. take b out ++ (packs (c + one_if last) w ++ drop o out)) m.start m.count
-      ∙ ap (λ k. take (core_at g) out ++ (packs k w ++ drop (octets g t) out)) p
+      let p : c + one_if last ≡ octets g t - core_at g = omega (arith, m.count) in
+      let none : drop (length out - core_at g) (drop (core_at g) out) ≡ [] =
+      drop_of_length-le (drop (core_at g) out) {i = length out - core_at g} (omega (arith, length-drop (core_at g) out)) in
+      ap (λ k. take k out ++ (d ++ drop (length out - k) (drop k out))) ej
+      ∙ ap (λ l. take (core_at g) out ++ (d ++ l)) none ∙ ap (λ l. take (core_at g) out ++ l)
+      (append-nil d ∙ e w q.0 q.1 (subst (λ s. Ends s a c w q.0 q.1) (sym es) q.2)
+      ∙ ap₂ (λ k l. packs k w ++ l) p
+      (ap (drop (c + one_if last)) to ∙ drop-drop (c + one_if last) (core_at g) out ∙ ap (λ k. drop k out) m.count))

@@ -1,4 +1,4 @@
--- Octets as windows of a list of bits: `packs` under zeros, from an octet on, and after a copy. Assumes nothing.
+-- Octets as windows of a list of bits: `packs` under zeros, one octet more, and what a copy gives. Assumes nothing.
 use mathlib.Core.Path.{◌≡◌, refl, sym, ap, ap₂, ◌∙◌}
 use mathlib.Core.Bool.{Bool, false}
 use mathlib.Core.List.{List, [], ◌∷◌, ◌++◌}
@@ -8,9 +8,9 @@ use lib.Dec.{eqb}
 use lib.ListN.{length, take, drop, replicate, length-drop}
 use lib.Seq.{drop-drop, take-add}
 use borrow.Author.Tests.{eqb-true}
-use Rattle.bits.specs.Bits.{odd, one_if, digits, num, bits, packs, Octets, copied}
-use Rattle.bits.proofs.BitLaws.{num-lt, digits-num-le, bits-append, bits-take, bits-drop, bits-injective, octets-take, octets-drop, octets-append}
-use Rattle.bits.proofs.Tests.{every_below_lem}
+use Rattle.bits.specs.Bits.{odd, one_if, digits, num, bits, packs, Octets}
+use Rattle.bits.proofs.BitLaws.{num-lt, digits-num-le, bits-injective}
+use Rattle.bits.proofs.Tests.{every_below, every_below_lem}
 
 -- ---- under zeros
 
@@ -70,27 +70,17 @@ octets-packs zero l i = omega arith
 octets-packs (suc c) l zero = num-lt 8 l
 octets-packs (suc c) l (suc i) = octets-packs c (drop 8 l) i
 
-pub copied-octets : (d d₀ : List ℕ) (j c : ℕ) (t : List Bool) → Octets d → Octets d₀ → 8 * c ≤ length t
-    → bits d ≡ copied (bits d₀) (8 * j) t (8 * c) → d ≡ take j d₀ ++ (packs c t ++ drop (j + c) d₀)
-copied-octets d d₀ j c t o o₀ h e =
-    bits-injective d (take j d₀ ++ (packs c t ++ drop (j + c) d₀)) o
-    (octets-append (take j d₀) (packs c t ++ drop (j + c) d₀) (octets-take j d₀ o₀)
-    (octets-append (packs c t) (drop (j + c) d₀) (octets-packs c t) (octets-drop (j + c) d₀ o₀)))
-    (e
-    ∙ sym (bits-append (take j d₀) (packs c t ++ drop (j + c) d₀)
-    ∙ ap₂ ◌++◌ (bits-take j d₀)
-    (bits-append (packs c t) (drop (j + c) d₀)
-    ∙ ap₂ ◌++◌ (bits-packs c t h) (bits-drop (j + c) d₀ ∙ ap (λ k. drop k (bits d₀)) (let z : 8 * (j + c) ≡ 8 * j + 8 * c = omega arith in z)))))
+pub octets_are : (d : List ℕ) (c : ℕ) (t : List Bool) → Octets d → 8 * c ≤ length t → bits d ≡ take (8 * c) t → d ≡ packs c t
+octets_are d c t o h e = bits-injective d (packs c t) o (octets-packs c t) (e ∙ sym (bits-packs c t h))
 
 -- ---- a shifted octet
 
 shift_test : ℕ → ℕ → Bool
 shift_test a x = eqb (x * 2 ^ a % 256) (num 8 (drop a (digits 8 x)))
 
-pub shift_three : (x : ℕ) → x < 256 → x * 2 ^ 3 % 256 ≡ num 8 (drop 3 (digits 8 x))
-unfolding shift_test odd digits num
-shift_three x h = eqb-true _ _ (every_below_lem 256 (shift_test 3) refl x h)
+shifts_test : ℕ → Bool
+shifts_test a = every_below 256 (shift_test a)
 
-pub shift_five : (x : ℕ) → x < 256 → x * 2 ^ 5 % 256 ≡ num 8 (drop 5 (digits 8 x))
-unfolding shift_test odd digits num
-shift_five x h = eqb-true _ _ (every_below_lem 256 (shift_test 5) refl x h)
+pub shifts : (a x : ℕ) → a < 8 → x < 256 → x * 2 ^ a % 256 ≡ num 8 (drop a (digits 8 x))
+unfolding shifts_test shift_test odd digits num
+shifts a x ha hx = eqb-true _ _ (every_below_lem 256 (shift_test a) (every_below_lem 8 shifts_test refl a ha) x hx)
