@@ -5,7 +5,7 @@ use mathlib.Core.List.{List}
 use Prim.Native.Nat.{ℕ, ◌≤◌, ◌<◌}
 use lib.Dec.{eqb, leb}
 use lib.ListN.{length, length-map}
-use borrow.Author.Tests.{leb-true, le-leb, lt-leb, eqb-true, eq-eqb, ne_eqb}
+use borrow.Author.Tests.{leb-true, le-leb, eqb-true, eq-eqb, ne_eqb}
 use Rattle.bits.specs.Bits.{one_if, pack, octets_for}
 use Rattle.bits.proofs.BitLaws.{length-pack}
 use Rattle.bits.proofs.Tests.{and_left, and_right}
@@ -15,10 +15,7 @@ use Rattle.definitions.specs.Reading.{buffer_core, core_fill_clear, counted, ove
 use Rattle.definitions.specs.Order.{order_table, zero_or_one, row_bits, row_octets, ordered, unordered, to_core_call, to_row_call}
 use Rattle.definitions.proofs.Frames.{never}
 use Rattle.definitions.proofs.Order.{tables_permute, length-ordered, length-unordered}
-use Rattle.frame.specs.Answers.{number_of, built_of}
-use Rattle.frame.specs.declared.Refusal.{Refusal}
-use Rattle.frame.specs.declared.Built.{Built}
-use Rattle.frame.specs.declared.Built.TheVariants.{Octets, Refused}
+use Rattle.std.specs.Prelude.{Ok}
 use Rattle.frame_builder.specs.Output.{IntoOutput}
 use Rattle.order_tables.specs.Ready.{RowReady, CoreReady, with_core, with_row}
 
@@ -32,12 +29,42 @@ row-size : (m : ℕ) (core : List ℕ) → m ≤ 4 → length (row_octets (unord
 row-size m core h =
     length-map (unordered (order_table m) (buffer_core core m)) one_if ∙ length-unordered (order_table m) (buffer_core core m) ∙ (tables_permute.each m h).whole
 
+-- ---- the first test of either call
+
+pub bits_found : (m k : ℕ) → ok k ≡ unless 11 (leb m 8) (ok (core_bits m)) → (m ≤ 8) × (k ≡ core_bits m)
+bits_found m k e = go (leb m 8) refl e
+  where
+    go : (b : Bool) → leb m 8 ≡ b → ok k ≡ unless 11 b (ok (core_bits m)) → (m ≤ 8) × (k ≡ core_bits m)
+    go true t e = (leb-true _ _ t, cc)
+    go false t e = never 11 k (sym e)
+
+-- its refusal is the call's, whatever is judged with it and behind it
+first_refused : (m n : ℕ) → refused n ≡ unless 11 (leb m 8) (ok (core_bits m)) → (b : Bool) (r : Outcome (List ℕ)) → refused n ≡ counted (unless 11 (leb m 8 && b) r)
+first_refused m n e b r = go (leb m 8) e
+  where
+    go : (a : Bool) → refused n ≡ unless 11 a (ok (core_bits m)) → refused n ≡ counted (unless 11 (a && b) r)
+    go true e = never n (core_bits m) e
+    go false e = e
+
+-- ---- the last tests of either call
+
+abbrev pub unless_written : (m room n : ℕ) → Outcome ℕ
+unless_written m room n = unless 12 (leb m 4) (unless 10 (leb n room) (ok n))
+
+written_counts : (m room n : ℕ) (w : List ℕ) → (m ≤ 4 → length w ≡ n) → unless_written m room n ≡ counted (unless 12 (leb m 4) (unless 10 (leb n room) (ok w)))
+written_counts m room n w e = go (leb m 4) (leb n room) refl
+  where
+    go : (a b : Bool) → leb m 4 ≡ a → unless 12 a (unless 10 b (ok n)) ≡ counted (unless 12 a (unless 10 b (ok w)))
+    go true true h = ap ok (sym (e (leb-true _ _ h)))
+    go true false h = refl
+    go false b h = refl
+
 -- ---- from row to core
 
 module _ (m : ℕ) (row : List ℕ) (room : ℕ) where
-  pub mode_high : 8 < m → refused 11 ≡ counted (to_core_call m row room)
+  pub mode_refused : (n : ℕ) → refused n ≡ unless 11 (leb m 8) (ok (core_bits m)) → refused n ≡ counted (to_core_call m row room)
   unfolding to_core_call
-  mode_high h = rw (lt-leb m 8 h)
+  mode_refused n e = first_refused m n e (eqb (length row) (core_bits m) && zero_or_one row) _
 
   pub row-length : m ≤ 8 → (length row ≡ core_bits m → ⊥) → refused 11 ≡ counted (to_core_call m row room)
   unfolding to_core_call
@@ -47,18 +74,11 @@ module _ (m : ℕ) (row : List ℕ) (room : ℕ) where
   unfolding to_core_call
   row_value h l v = rw (le-leb m 8 h, eq-eqb _ _ l, v)
 
-  module _ (h : m ≤ 8) (l : length row ≡ core_bits m) (v : zero_or_one row ≡ true) where
-    pub row-unordered : 4 < m → refused 12 ≡ counted (to_core_call m row room)
-    unfolding to_core_call
-    row-unordered n = rw (le-leb m 8 h, eq-eqb _ _ l, v, lt-leb m 4 n)
-
-    pub core_short : m ≤ 4 → room < core_octets m → refused 10 ≡ counted (to_core_call m row room)
-    unfolding to_core_call
-    core_short n r = rw (le-leb m 8 h, eq-eqb _ _ l, v, le-leb m 4 n, lt-leb _ _ r)
-
-    pub core_fits : m ≤ 4 → core_octets m ≤ room → ok (core_octets m) ≡ counted (to_core_call m row room)
-    unfolding to_core_call
-    core_fits n r = rw (le-leb m 8 h, eq-eqb _ _ l, v, le-leb m 4 n, le-leb _ _ r, core-size m row n)
+  pub row_good : m ≤ 8 → length row ≡ core_bits m → zero_or_one row ≡ true → unless_written m room (core_octets m) ≡ counted (to_core_call m row room)
+  unfolding to_core_call
+  row_good h l v =
+      rw (le-leb m 8 h, eq-eqb _ _ l, v)
+      (written_counts m room (core_octets m) (pack (ordered (order_table m) (row_bits row))) (core-size m row))
 
 pub row_taken : (m : ℕ) (row core w : List ℕ) → to_core_call m row (length core) ≡ ok w → RowReady m row core × (with_core m row core ≡ overwritten w core)
 unfolding to_core_call
@@ -85,9 +105,9 @@ row_taken m row core w e =
 -- ---- from core to row
 
 module _ (m : ℕ) (core : List ℕ) (room : ℕ) where
-  pub core-mode_high : 8 < m → refused 11 ≡ counted (to_row_call m core room)
+  pub core-mode_refused : (n : ℕ) → refused n ≡ unless 11 (leb m 8) (ok (core_bits m)) → refused n ≡ counted (to_row_call m core room)
   unfolding to_row_call
-  core-mode_high h = rw (lt-leb m 8 h)
+  core-mode_refused n e = first_refused m n e (eqb (length core) (core_octets m)) _
 
   pub core_length : m ≤ 8 → (length core ≡ core_octets m → ⊥) → refused 11 ≡ counted (to_row_call m core room)
   unfolding to_row_call
@@ -97,18 +117,11 @@ module _ (m : ℕ) (core : List ℕ) (room : ℕ) where
   unfolding to_row_call
   core_filling h l v = rw (le-leb m 8 h, eq-eqb _ _ l, v)
 
-  module _ (h : m ≤ 8) (l : length core ≡ core_octets m) (v : core_fill_clear m core ≡ true) where
-    pub core-unordered : 4 < m → refused 12 ≡ counted (to_row_call m core room)
-    unfolding to_row_call
-    core-unordered n = rw (le-leb m 8 h, eq-eqb _ _ l, v, lt-leb m 4 n)
-
-    pub row_short : m ≤ 4 → room < core_bits m → refused 10 ≡ counted (to_row_call m core room)
-    unfolding to_row_call
-    row_short n r = rw (le-leb m 8 h, eq-eqb _ _ l, v, le-leb m 4 n, lt-leb _ _ r)
-
-    pub row_fits : m ≤ 4 → core_bits m ≤ room → ok (core_bits m) ≡ counted (to_row_call m core room)
-    unfolding to_row_call
-    row_fits n r = rw (le-leb m 8 h, eq-eqb _ _ l, v, le-leb m 4 n, le-leb _ _ r, row-size m core n)
+  pub core_good : m ≤ 8 → length core ≡ core_octets m → core_fill_clear m core ≡ true → unless_written m room (core_bits m) ≡ counted (to_row_call m core room)
+  unfolding to_row_call
+  core_good h l v =
+      rw (le-leb m 8 h, eq-eqb _ _ l, v)
+      (written_counts m room (core_bits m) (row_octets (unordered (order_table m) (buffer_core core m))) (row-size m core))
 
 pub core_taken : (m : ℕ) (core row w : List ℕ) → to_row_call m core (length row) ≡ ok w → CoreReady m core row × (with_row m core row ≡ overwritten w row)
 unfolding to_row_call
@@ -129,21 +142,10 @@ core_taken m core row w e =
 
 -- ---- either call: its answer and its buffer, from what was judged
 
-module _ (o : Outcome (List ℕ)) (r : Built) (e : built_of r ≡ counted o) (d₀ : List ℕ) where
-  -- a call that is not refused writes something
-  pub writes : (m : ℕ) → r ≡ Octets m → (w : List ℕ) × (o ≡ ok w)
-  writes m h = go o (sym (ap built_of h) ∙ e)
-    where
-      go : (o : Outcome (List ℕ)) → ok m ≡ counted o → (w : List ℕ) × (o ≡ ok w)
-      go (refused n) h = never n m (sym h)
-      go (ok w) h = (w, refl)
+-- a call that is not refused writes something
+pub writes : (o : Outcome (List ℕ)) (n : ℕ) → ok n ≡ counted o → (w : List ℕ) × (o ≡ ok w)
+writes (refused k) n h = never k n (sym h)
+writes (ok w) n h = (w, refl)
 
-  pub refused_leaves : (x : Refusal) → r ≡ Refused x → IntoOutput o d₀ d₀ r
-  refused_leaves x h = record { answer = e; buffer = go o (sym (ap built_of h) ∙ e) }
-    where
-      go : (o : Outcome (List ℕ)) → refused (number_of x) ≡ counted o → d₀ ≡ output_after o d₀
-      go (refused n) h = refl
-      go (ok w) h = never (number_of x) (length w) h
-
-  pub written_out : (m : ℕ) (w d : List ℕ) → r ≡ Octets m → o ≡ ok w → d ≡ overwritten w d₀ → IntoOutput o d₀ d (Octets m)
-  written_out m w d h ow ed = record { answer = sym (ap built_of h) ∙ e; buffer = ed ∙ ap (λ o. output_after o d₀) (sym ow) }
+pub written_out : (o : Outcome (List ℕ)) (n : ℕ) (w d₀ d : List ℕ) → ok n ≡ counted o → o ≡ ok w → d ≡ overwritten w d₀ → IntoOutput o d₀ d (Ok n)
+written_out o n w d₀ d e h b = record { answer = e; buffer = b ∙ ap (λ o. output_after o d₀) (sym h) }
