@@ -2,11 +2,12 @@
 use mathlib.Core.Path.{◌≡◌, refl, sym, ap, ◌∙◌}
 use mathlib.Core.Bool.{Bool, true, false, ◌&&◌}
 use mathlib.Core.List.{List}
-use Prim.Native.Nat.{ℕ, ◌≤◌, ◌<◌}
+use Prim.Native.Nat.{ℕ, min, ◌+◌, ◌-◌, ◌*◌, ◌/◌, ◌%◌, ◌≤◌}
+use native.Mathlib.Omega.{arith}
 use lib.Dec.{eqb, leb}
-use lib.ListN.{length, length-map}
+use lib.ListN.{length, drop, length-map}
 use borrow.Author.Tests.{leb-true, le-leb, eqb-true, eq-eqb, ne_eqb}
-use Rattle.bits.specs.Bits.{one_if, pack, octets_for}
+use Rattle.bits.specs.Bits.{one_if, clear, bits, pack, octets_for}
 use Rattle.bits.proofs.BitLaws.{length-pack}
 use Rattle.bits.proofs.Tests.{and_left, and_right}
 use Rattle.definitions.specs.Outcome.{Outcome, refused, ok, unless}
@@ -37,6 +38,11 @@ bits_found m k e = go (leb m 8) refl e
     go : (b : Bool) → leb m 8 ≡ b → ok k ≡ unless 11 b (ok (core_bits m)) → (m ≤ 8) × (k ≡ core_bits m)
     go true t e = (leb-true _ _ t, cc)
     go false t e = never 11 k (sym e)
+
+-- the octets of its core
+pub octets_found : (m k n : ℕ) → k ≡ core_bits m → n ≡ k / 8 + min 1 (k % 8) → n ≡ core_octets m
+octets_found m k n e h =
+    let c : n ≡ octets_for k = omega arith in c ∙ ap octets_for e
 
 -- its refusal is the call's, whatever is judged with it and behind it
 first_refused : (m n : ℕ) → refused n ≡ unless 11 (leb m 8) (ok (core_bits m)) → (b : Bool) (r : Outcome (List ℕ)) → refused n ≡ counted (unless 11 (leb m 8 && b) r)
@@ -139,6 +145,10 @@ core_taken m core row w e =
     go true false b₃ b₄ e₁ e₃ e₄ e = never 5 w e
     go true true false b₄ e₁ e₃ e₄ e = never 12 w e
     go true true true false e₁ e₃ e₄ e = never 10 w e
+
+-- the test that the code makes is the definition's
+pub filling_there : (m k : ℕ) (core : List ℕ) → k ≡ core_bits m → clear (8 * length core - k) (drop k (bits core)) ≡ core_fill_clear m core
+filling_there m k core e = ap (λ k. clear (8 * length core - k) (drop k (bits core))) e
 
 -- ---- either call: its answer and its buffer, from what was judged
 

@@ -2,7 +2,7 @@
 // `order_to_row` are entries.
 #![tactic(auto)]
 
-ghost use Rattle.std.specs.Prelude.{◌≡◌, leb, length};
+ghost use Rattle.std.specs.Prelude.{◌≡◌, ◌≤◌, IfOk, leb, length};
 ghost use Rattle.definitions.specs.Outcome.{ok, unless};
 ghost use Rattle.definitions.specs.Frames.{core_bits};
 ghost use Rattle.definitions.specs.Reading.{counted};
@@ -21,7 +21,8 @@ const HIGHEST_ORDERED: u64 = 4;
 
 // The first test of either call: the core's bits in the mode.
 fn bits_in(mode: u64) -> Result<usize, Refusal>
-    ensures { built_of result ≡ unless 11 (leb mode 8) (ok (core_bits mode)) }
+    ensures judged { built_of result ≡ unless 11 (leb mode 8) (ok (core_bits mode)) }
+    ensures bound { IfOk result (λ k. k ≤ 477) }
 {
     if HIGHEST_MODE < mode {
         return Err(Refusal::ArgumentRange);
@@ -53,7 +54,7 @@ fn judge_row(mode: u64, row: &[u8], room: usize) -> Result<usize, Refusal>
     if !zero_or_one(row) {
         return Err(Refusal::ArgumentRange);
     }
-    octets_written(mode, (k + 7) / 8, room)
+    octets_written(mode, k.div_ceil(8), room)
 }
 
 // The same of the call from core to row.
@@ -61,7 +62,7 @@ fn judge_core(mode: u64, core: &[u8], room: usize) -> Result<usize, Refusal>
     ensures { built_of result ≡ counted (to_row_call mode core.now room) }
 {
     let k = bits_in(mode)?;
-    if core.len() != (k + 7) / 8 {
+    if core.len() != k.div_ceil(8) {
         return Err(Refusal::ArgumentRange);
     }
     if !core_fill_clear(core, k) {
