@@ -2,14 +2,13 @@
 #![tactic(auto)]
 
 ghost use Rattle.std.specs.Prelude.{◌≡◌};
-ghost use Rattle.link_state.specs.Answers.{verdict_of, moved_of};
-ghost use Rattle.downlink_flows.specs.Answers.{forward_of};
+ghost use Rattle.link_state.specs.Answers.{moved_of};
 ghost use Rattle.downlink.specs.Answers.{down_of};
-ghost use Rattle.link_answers.specs.Flat.{refusal_number, link_numbers, is_forwarded, request_forwarded, down_numbers};
+ghost use Rattle.link_answers.specs.Flat.{link_numbers, down_numbers};
 
-use downlink::Downlinked;
-use downlink_flows::Forward;
-use link_state::{Moved, Verdict};
+use downlink::DownAnswer;
+use downlink_flows::Subflows;
+use frame::Refusal;
 use links::Link;
 
 #[repr(C)]
@@ -37,82 +36,45 @@ pub struct DownNumbers {
     pub link: Link,
 }
 
-// 0, or the number of a refusal.
-fn verdict_number(v: Verdict) -> u64
-    ensures { result ≡ refusal_number (verdict_of v) }
-{
-    match v {
-        Verdict::Accepted => 0,
-        Verdict::Refused(e) => frame::refusal_number(e),
-    }
-}
+// What Down says of no frame.
+const NO_SUBFLOWS: Subflows = Subflows {
+    fqc: 0,
+    rfci: 0,
+    octets1: 0,
+    octets2: 0,
+    octets3: 0,
+    forward: None,
+};
 
-// The answer of a call that changes the state.
-pub fn moved_answer(m: Moved) -> LinkAnswer
-    ensures { result ≡ link_numbers (moved_of m) }
+// The answer of a call that changes the state `link`: the state after it is the answer's, or after a refusal `link`.
+pub fn moved_answer(link: Link, r: Result<Link, Refusal>) -> LinkAnswer
+    ensures { result ≡ link_numbers (moved_of link r) }
 {
-    let v = m.verdict;
-    let link = m.link;
     LinkAnswer {
-        refusal: verdict_number(v),
+        refusal: r.err().map_or(0, u64::from),
         frame: 0,
         octet: 0,
-        link,
+        link: r.unwrap_or(link),
     }
 }
 
-// Whether a request is forwarded, and which.
-fn is_forwarded(f: Forward) -> u64
-    ensures { result ≡ is_forwarded (forward_of f) }
-{
-    match f {
-        Forward::Nothing => 0,
-        Forward::Request(_) => 1,
-    }
-}
+impl From<DownAnswer> for DownNumbers {
+    ghost from_gives = { λ d n. n ≡ down_numbers (down_of d.answer) d.link };
 
-fn request_forwarded(f: Forward) -> u64
-    ensures { result ≡ request_forwarded (forward_of f) }
-{
-    match f {
-        Forward::Nothing => 0,
-        Forward::Request(r) => r as u64,
-    }
-}
-
-// The answer of Down, with the state after it.
-pub fn down_answer(d: Downlinked, link: Link) -> DownNumbers
-    ensures { result ≡ down_numbers (down_of d) link }
-{
-    match d {
-        Downlinked::Split(s) => {
-            let f = s.forward;
-            DownNumbers {
-                refusal: 0,
-                frame: 0,
-                octet: 0,
-                fqc: s.fqc as u64,
-                rfci: s.rfci as u64,
-                n1: s.octets1 as u64,
-                n2: s.octets2 as u64,
-                n3: s.octets3 as u64,
-                forwarded: is_forwarded(f),
-                request: request_forwarded(f),
-                link,
-            }
-        }
-        Downlinked::Refused(e) => DownNumbers {
-            refusal: frame::refusal_number(e),
+    fn from(d: DownAnswer) -> DownNumbers {
+        let s = d.answer.unwrap_or(NO_SUBFLOWS);
+        DownNumbers {
+            refusal: d.answer.err().map_or(0, u64::from),
             frame: 0,
             octet: 0,
-            fqc: 0,
-            rfci: 0,
-            n1: 0,
-            n2: 0,
-            n3: 0,
-            forwarded: 0,
-            request: 0,
-            link,
-        },
+            fqc: u64::from(s.fqc),
+            rfci: u64::from(s.rfci),
+            n1: s.octets1 as u64,
+            n2: s.octets2 as u64,
+            n3: s.octets3 as u64,
+            forwarded: u64::from(s.forward.is_some()),
+            request: s.forward.map_or(0, u64::from),
+            link: d.link,
+        }
     }
 }
