@@ -22,7 +22,7 @@ use Rattle.frame.specs.declared.Refusal.{Refusal}
 use Rattle.frame_reader.specs.Buffer.{IntoBuffer}
 use Rattle.recording_reader.specs.Answers.{outside}
 use Rattle.recording_reader.specs.declared.RefusedAt.{RefusedAt}
-use Rattle.viewer.specs.Answers.{Shown, view_of, shown_of, place_after, place_of, core_if, core_at, Views, Nexts, ViewsInto}
+use Rattle.viewer.specs.Answers.{Shown, view_of, place_after, core_if, core_at, Views, Nexts, ViewsInto}
 use Rattle.viewer.specs.declared.Place.{Place}
 
 -- an answer has the place for the call behind it
@@ -35,6 +35,11 @@ viewed core o place a e = record { answer = e; behind = behind a ∙ ap (λ o. m
     behind (Err e) = refl
 
 -- ---- the call over the recording
+
+-- a format that is not known
+pub unknown_next : (format offset number : ℕ) (s : List ℕ) (e : Refusal) → format_numbered format ≡ refused (number_of e) → Nexts format offset number s (Err (outside e))
+unfolding next_call
+unknown_next format offset number s e h = viewed _ _ _ _ (rw h)
 
 -- the frame that was read
 module _ (s : List ℕ) (offset : ℕ) (f : Format) (x : FrameHeader) (m : ℕ)
@@ -54,20 +59,20 @@ module _ (s : List ℕ) (offset : ℕ) (f : Format) (x : FrameHeader) (m : ℕ)
 -- ---- the core put into a buffer
 
 -- the end and a refusal are handed on
-module _ (format offset number : ℕ) (s : List ℕ) (a : Result Shown RefusedAt) (v : Nexts format offset number s a) (d : List ℕ) where
-  handed_on : (w : Placed View) → view_of (core_at format offset s) a ≡ w → view_of (buffer_core d) a ≡ w → and_then_at w (into_room (length d)) ≡ w
-      → view_after w d ≡ d → ViewsInto (view_call format offset number s (length d)) (number, offset) d d a
+module _ (format offset number : ℕ) (s d : List ℕ) where
+  handed_on : (a : Result Shown RefusedAt) → Nexts format offset number s a → (w : Placed View) → view_of (core_at format offset s) a ≡ w
+      → view_of (buffer_core d) a ≡ w → and_then_at w (into_room (length d)) ≡ w → view_after w d ≡ d
+      → ViewsInto (view_call format offset number s (length d)) (number, offset) d d a
   unfolding view_call
-  handed_on w e e' i u =
+  handed_on a v w e e' i u =
       let is : and_then_at (next_call format offset number s) (into_room (length d)) ≡ w = ap (λ o. and_then_at o (into_room (length d))) (sym v.answer ∙ e) ∙ i in
       record { views = viewed _ _ _ _ (e' ∙ sym is); buffer = sym (ap (λ o. view_after o d) is ∙ u) }
 
-  pub ended : a ≡ Ok None → ViewsInto (view_call format offset number s (length d)) (number, offset) d d a
-  ended e = handed_on (done end) (ap (view_of (core_at format offset s)) e) (ap (view_of (buffer_core d)) e) refl refl
+  pub ended : Nexts format offset number s (Ok None) → ViewsInto (view_call format offset number s (length d)) (number, offset) d d (Ok None)
+  ended v = handed_on (Ok None) v (done end) refl refl refl refl
 
-  pub refused_view : (e : RefusedAt) → a ≡ Err e → ViewsInto (view_call format offset number s (length d)) (number, offset) d d a
-  refused_view e i =
-      handed_on (refused_at (number_of e.refusal) e.frame e.octet) (ap (view_of (core_at format offset s)) i) (ap (view_of (buffer_core d)) i) refl refl
+  pub refused_view : (e : RefusedAt) → Nexts format offset number s (Err e) → ViewsInto (view_call format offset number s (length d)) (number, offset) d d (Err e)
+  refused_view e v = handed_on (Err e) v (refused_at (number_of e.refusal) e.frame e.octet) refl refl refl refl
 
 -- a core that fits is that of the frame
 into_room_lem : (y : Frame) (room : ℕ) (z : Frame) (m : ℕ) → into_buffer y room ≡ ok (z, m) → (into_buffer y room ≡ ok (y, core_octets y.type)) × (z ≡ y)

@@ -64,10 +64,7 @@ impl<'a> Viewer<'a> {
     {
         let Place { number, offset } = self.place;
         let len = self.rec.len() as u64;
-        if len < offset {
-            return Err(Refusal::ArgumentRange.into());
-        }
-        if offset < number {
+        if len < offset || offset < number {
             return Err(Refusal::ArgumentRange.into());
         }
         if offset == len {
