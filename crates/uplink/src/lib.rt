@@ -65,7 +65,13 @@ fn build_joined(
     let t = c.frame_type;
     let m = core_octets(usize::from(t));
     let i = indication_of(t);
-    if !core_fields_good(Format::If1, u64::from(t), u64::from(i), u64::from(request), &core[..m]) {
+    if !core_fields_good(
+        Format::If1,
+        u64::from(t),
+        u64::from(i),
+        u64::from(request),
+        &core[..m],
+    ) {
         return Err(Refusal::FieldRange);
     }
     let n = IF1_CORE_AT + m;

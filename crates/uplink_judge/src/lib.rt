@@ -10,7 +10,8 @@ use frame::{Refusal, SID};
 use frame_builder::core_fill_clear;
 use links::{Combination, Link};
 
-// FQC: good, and bad, of which nothing is read. 3 is reserved.
+// FQC: good, and bad, of which nothing is read. 3 is reserved. Numbers and no enum: a caller hands a number in, 3 is refused only behind
+// the set's test, and the frame has its quality as a number.
 const GOOD: u64 = 0;
 
 const BAD: u64 = 1;
@@ -50,7 +51,7 @@ fn subflows_good(c: Combination, s: SubflowOctets<'_>) -> bool
 pub fn quality_of(fqc: u64) -> u8
     ensures { (result ≡ cond (eqb fqc 0) 1 0) × (result < 2) }
 {
-    if fqc == GOOD { 1 } else { 0 }
+    u8::from(fqc == GOOD)
 }
 
 // The combination of an RFCI, or why Up is refused before a sub-flow is read.
@@ -71,12 +72,7 @@ fn pick(link: &Link, fqc: u64, rfci: u64) -> Result<Combination, Refusal>
 }
 
 // What Up is to write. Three functions and not one, since the compiler takes a call behind many tests for a rare one, and leaves it a call.
-pub fn judge(
-    link: Link,
-    fqc: u64,
-    rfci: u64,
-    s: SubflowOctets<'_>,
-) -> Result<Judged, Refusal>
+pub fn judge(link: Link, fqc: u64, rfci: u64, s: SubflowOctets<'_>) -> Result<Judged, Refusal>
     ensures { Judges link fqc rfci s.entry.s1.now s.entry.s2.now s.entry.s3.now result }
 {
     let c = pick(&link, fqc, rfci)?;

@@ -13,5 +13,5 @@ returns c =
     record {
       split = p;
       link = c.forwarded_after-forwarded.ensures a.link refl ∙ ap (λ d. next_link d a.link) p.answer
-        ∙ next_after (down_call a.link a.frame.now (length a.s1.now) (length a.s2.now) (length a.s3.now)) a.link;
+          ∙ next_after (down_call a.link a.frame.now (length a.s1.now) (length a.s2.now) (length a.s3.now)) a.link;
     }
