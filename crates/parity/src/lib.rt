@@ -23,7 +23,7 @@ fn step(r: u8) -> u8
 fn take_bit(r: u8, b: bool) -> u8
     ensures { (m : List Bool) → r ≡ num 8 (crc m) → result ≡ num 8 (crc (m ++ b ∷ [])) }
 {
-    step(r ^ ((b as u8) << 7))
+    step(r ^ (u8::from(b) << 7))
 }
 
 // The CRC of one octet, eight steps at once. `q` is the quotient of y · D^8: y · (D^16 / G), without its low terms. Its multiple of the
@@ -42,41 +42,20 @@ fn take_octet(r: u8, x: u8) -> u8
     shift_octet(r ^ x)
 }
 
-// The CRC of the first `k` octets of `core`.
-fn whole_octets(core: &[u8], k: usize) -> u8
-    requires { k ≤ length core.now }
-    ensures { result ≡ num 8 (crc (take (8 * k) (bits core.now))) }
-{
-    let mut r: u8 = 0;
-    let mut i: usize = 0;
-    while i < k {
-        r = take_octet(r, core[i]);
-        i += 1;
-    }
-    r
-}
-
-// From the CRC `r` of the first `from` bits of `core`, that of the first `n`.
-fn odd_bits(r: u8, core: &[u8], from: usize, n: usize) -> u8
-    requires { (from ≤ n) × (n ≤ 8 * length core.now) × (r ≡ num 8 (crc (take from (bits core.now)))) }
-    ensures { result ≡ num 8 (crc (take n (bits core.now))) }
-{
-    let mut s = r;
-    let mut i = from;
-    while i < n {
-        s = take_bit(s, bits::bit_at(core, i));
-        i += 1;
-    }
-    s
-}
-
 // The CRC of the first `n` bits of `core`: the whole octets, then the odd bits.
 pub fn crc_of(core: &[u8], n: usize) -> u8
     requires { n ≤ 8 * length core.now }
     ensures { result ≡ num 8 (crc (take n (bits core.now))) }
 {
     let k = n / 8;
-    odd_bits(whole_octets(core, k), core, 8 * k, n)
+    let mut r = 0;
+    for x in &core[..k] {
+        r = take_octet(r, *x);
+    }
+    for i in 8 * k..n {
+        r = take_bit(r, bits::bit_at(core, i));
+    }
+    r
 }
 
 // Does nothing. Its contract: the CRC is the remainder that document 01 names.

@@ -4,4 +4,6 @@ use Rattle.parity.proofs.Octets.{bit_taken}
 use Rattle.parity.proofs.take_bit.Goals as goal
 
 pub returns : goal.returns
-returns c m e = c.step.ensures ∙ bit_taken m c.args.r c.args.b e
+returns c m e =
+    let s = rw c.from.ensures at c.step.ensures in
+    s ∙ bit_taken m c.args.r c.args.b e
