@@ -1,11 +1,11 @@
--- Refusal 6's test, step by step. Assumes nothing.
+-- Refusal 6's test of modes in range. Assumes nothing.
 use mathlib.Core.Path.{◌≡◌, refl, sym, ap, ◌∙◌}
 use mathlib.Core.Bool.{Bool, true, false}
 use mathlib.Core.List.{List}
-use Prim.Native.Nat.{ℕ, ◌<◌, ◌≤◌}
+use Prim.Native.Nat.{ℕ, ◌≤◌}
 use lib.Dec.{eqb}
 use lib.ListN.{drop}
-use borrow.Author.Tests.{le-leb, lt-leb, eqb-true}
+use borrow.Author.Tests.{le-leb, eqb-true}
 use Rattle.bits.specs.Bits.{num}
 use Rattle.definitions.specs.Frames.{Format, frame_by, sid_good, uncarried_zero, fields_good}
 
@@ -18,14 +18,6 @@ same-sid t i m n h = go (eqb t 9) refl
     go false e = rw e
 
 module _ (f : Format) (t q i r m : ℕ) (core : List Bool) (sid : t ≡ 9 → m ≡ num 4 (drop 36 core)) where
-  pub indication_high : 8 < i → false ≡ fields_good f (frame_by t q i r core)
-  unfolding fields_good
-  indication_high h = rw (lt-leb i 8 h)
-
-  pub request_high : i ≤ 8 → 8 < r → false ≡ fields_good f (frame_by t q i r core)
-  unfolding fields_good
-  request_high h k = rw (le-leb i 8 h, lt-leb r 8 k)
-
   pub sid_wrong : i ≤ 8 → r ≤ 8 → (b : Bool) → b ≡ sid_good t i m → b ≡ false → false ≡ fields_good f (frame_by t q i r core)
   unfolding fields_good
   sid_wrong h k b e w =

@@ -1,4 +1,3 @@
 mod Types
 pub mod TableLaws
 mod FieldLaws
-mod FormatLaws

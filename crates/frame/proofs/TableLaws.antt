@@ -2,8 +2,7 @@
 use mathlib.Core.Path.{◌≡◌, refl, ap}
 use mathlib.Core.Bool.{Bool, true, false, not, ◌&&◌, ◌||◌, cond}
 use mathlib.Core.List.{List}
-use Prim.Native.Nat.{ℕ, ◌+◌, ◌*◌, ◌/◌, ◌^◌, ◌<◌, ◌≤◌}
-use lib.Bits.{bit_and}
+use Prim.Native.Nat.{ℕ, ◌+◌, ◌*◌, ◌/◌, ◌%◌, ◌^◌, ◌<◌, ◌≤◌}
 use native.Mathlib.Omega.{arith}
 use lib.Dec.{eqb, leb}
 use borrow.Author.Tests.{leb-true, eqb-true}
@@ -65,11 +64,11 @@ sid-known = refl
 
 -- a digit of `fill_word`
 fill_test : Format → ℕ → Bool
-fill_test f t = eqb (bit_and (fill_word f / 2 ^ (4 * t)) 7) (fill_bits f t) && leb (fill_bits f t) 7
+fill_test f t = eqb (fill_word f / 2 ^ (4 * t) % 2 ^ 4) (fill_bits f t) && leb (fill_bits f t) 7
 
-pub fill_digit : (f : Format) (t : ℕ) → known t ≡ true → (bit_and (fill_word f / 2 ^ (4 * t)) 7 ≡ fill_bits f t) × (fill_bits f t ≤ 7)
+pub fill_digit : (f : Format) (t : ℕ) → known t ≡ true → (fill_word f / 2 ^ (4 * t) % 2 ^ 4 ≡ fill_bits f t) × (fill_bits f t ≤ 7)
 unfolding fill_test fill_word octets core_bits
-fill_digit f t k = (eqb-true _ _ (and_left _ _ (tested f)), leb-true _ _ (and_right (eqb (bit_and (fill_word f / 2 ^ (4 * t)) 7) (fill_bits f t)) _ (tested f)))
+fill_digit f t k = (eqb-true _ _ (and_left _ _ (tested f)), leb-true _ _ (and_right (eqb (fill_word f / 2 ^ (4 * t) % 2 ^ 4) (fill_bits f t)) _ (tested f)))
   where
     tested : (f : Format) → fill_test f t ≡ true
     tested if1 = every_below_lem 16 (fill_test if1) refl t (known-below t k)
@@ -78,12 +77,12 @@ fill_digit f t k = (eqb-true _ _ (and_left _ _ (tested f)), leb-true _ _ (and_ri
 
 -- a digit of `core_word`, and one of `if2_word`
 size_test : (ℕ → ℕ) → ℕ → ℕ → Bool
-size_test of w t = eqb (bit_and (w / 2 ^ (6 * t)) 63) (of t)
+size_test of w t = eqb (w / 2 ^ (6 * t) % 2 ^ 6) (of t)
 
-pub core_digit : (t : ℕ) → t ≤ 9 → bit_and (core_word / 2 ^ (6 * t)) 63 ≡ core_octets t
+pub core_digit : (t : ℕ) → t ≤ 9 → core_word / 2 ^ (6 * t) % 2 ^ 6 ≡ core_octets t
 unfolding size_test core_word core_bits
 core_digit t h = eqb-true _ _ (every_below_lem 10 (size_test core_octets core_word) refl t (omega arith))
 
-pub if2_digit : (t : ℕ) → t ≤ 9 → bit_and (if2_word / 2 ^ (6 * t)) 63 ≡ octets if2 t
+pub if2_digit : (t : ℕ) → t ≤ 9 → if2_word / 2 ^ (6 * t) % 2 ^ 6 ≡ octets if2 t
 unfolding size_test if2_word octets
 if2_digit t h = eqb-true _ _ (every_below_lem 10 (size_test (octets if2) if2_word) refl t (omega arith))

@@ -1,13 +1,6 @@
--- A row of the code's table of types, by document 01's table, and numbers of all types as one.
+-- Numbers of all types as one.
 use Rattle.std.specs.Prelude.{ℕ, zero, suc, ◌+◌, ◌*◌}
-use Rattle.definitions.specs.Frames.{Format, if1, if2, storage, core_bits, class_a, octets, core_octets, fill_bits}
-use Rattle.frame.specs.declared.table.TypeRow.{TypeRow}
-
-abbrev pub row_with : ℕ → ℕ → ℕ → ℕ → ℕ → TypeRow
-row_with k a x y z = record { core = k; class_a = a; if1 = x; if2 = y; storage = z }
-
-abbrev pub row_for : ℕ → TypeRow
-row_for t = row_with (core_bits t) (class_a t) (octets if1 t) (octets if2 t) (octets storage t)
+use Rattle.definitions.specs.Frames.{Format, if2, octets, core_octets, fill_bits}
 
 -- a number of each of n types from t on, as digits of one number
 abbrev pub digits_from : (base : ℕ) → (ℕ → ℕ) → (n t : ℕ) → ℕ

@@ -11,40 +11,23 @@ use crate::{Format, HIGHEST_MODE, SID};
 fn sid_good(t: u64, i: u64, mode: u64) -> bool
     ensures { result ≡ sid_good t i mode }
 {
-    if t != SID {
-        return true;
-    }
-    if i != 0 {
-        return false;
-    }
-    mode <= HIGHEST_MODE
+    t != SID || (i == 0 && mode <= HIGHEST_MODE)
 }
 
 // A field that the frame does not carry is 0.
 fn uncarried_zero(f: Format, t: usize, i: u64, r: u64) -> bool
     ensures { result ≡ uncarried_zero (format_of f) t i r }
 {
-    if carries_modes(f, t) {
-        return true;
-    }
-    if i != 0 {
-        return false;
-    }
-    r == 0
+    carries_modes(f, t) || (i == 0 && r == 0)
 }
 
 // Refusal 6's test, by the fields and, of a SID frame, its mode.
+#[tactic(auto, unfolding(definitions::specs::Frames::fields_good))]
 pub fn fields_good(f: Format, t: u64, i: u64, r: u64, mode: u64) -> bool
     ensures { (q : ℕ) (core : List Bool) → (t ≡ 9 → mode ≡ num 4 (drop 36 core)) → result ≡ fields_good (format_of f) (frame_by t q i r core) }
 {
-    if HIGHEST_MODE < i {
+    if HIGHEST_MODE < i || HIGHEST_MODE < r {
         return false;
     }
-    if HIGHEST_MODE < r {
-        return false;
-    }
-    if !sid_good(t, i, mode) {
-        return false;
-    }
-    uncarried_zero(f, t as usize, i, r)
+    sid_good(t, i, mode) && uncarried_zero(f, t as usize, i, r)
 }

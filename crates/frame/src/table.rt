@@ -1,9 +1,9 @@
 // The table of types. Its functions are `pub` for the crates above; they ask a type below 16. The bounds that they give beside the
 // value are what callers want of it in sums.
-ghost use Rattle.std.specs.Prelude.{◌≡◌, ◌<◌, ◌≤◌, true};
+ghost use Rattle.std.specs.Prelude.{◌≡◌, ◌<◌, ◌≤◌, ◌*◌, ◌/◌, ◌%◌, ◌^◌, true};
 ghost use Rattle.definitions.specs.Frames.{if2, known, core_bits, class_a, octets, core_octets, carries_modes, header_bits, fill_bits, spare_before, spare_after};
 ghost use Rattle.frame.specs.Answers.{format_of};
-ghost use Rattle.frame.specs.Rows.{row_with, row_for, fill_word, core_word, if2_word};
+ghost use Rattle.frame.specs.Rows.{fill_word};
 
 use crate::Format;
 
@@ -17,46 +17,32 @@ struct TypeRow {
     storage: usize,
 }
 
-fn row_of(core: usize, class_a: usize, if1: usize, if2: usize, storage: usize) -> TypeRow
-    ensures { result ≡ row_with core class_a if1 if2 storage }
-{
-    TypeRow {
-        core,
-        class_a,
-        if1,
-        if2,
-        storage,
-    }
-}
-
-// The row of a type; all 0 for the reserved ones. A `match`, since an indexed constant array would be built anew at each use.
-fn row(t: usize) -> TypeRow
-    ensures { result ≡ row_for t }
-{
-    match t {
-        0 => row_of(132, 54, 20, 18, 18),
-        1 => row_of(177, 64, 26, 23, 24),
-        2 => row_of(253, 72, 35, 33, 33),
-        3 => row_of(285, 72, 39, 37, 37),
-        4 => row_of(317, 72, 43, 41, 41),
-        5 => row_of(365, 72, 49, 47, 47),
-        6 => row_of(397, 72, 53, 51, 51),
-        7 => row_of(461, 72, 61, 59, 59),
-        8 => row_of(477, 72, 63, 61, 61),
-        9 => row_of(40, 40, 8, 6, 6),
-        14 => row_of(0, 0, 1, 1, 1),
-        15 => row_of(0, 0, 1, 1, 1),
-        _ => row_of(0, 0, 0, 0, 0),
-    }
-}
+// The row of each type; all 0 for the reserved ones.
+static TYPES: [TypeRow; 16] = [
+    TypeRow { core: 132, class_a: 54, if1: 20, if2: 18, storage: 18 },
+    TypeRow { core: 177, class_a: 64, if1: 26, if2: 23, storage: 24 },
+    TypeRow { core: 253, class_a: 72, if1: 35, if2: 33, storage: 33 },
+    TypeRow { core: 285, class_a: 72, if1: 39, if2: 37, storage: 37 },
+    TypeRow { core: 317, class_a: 72, if1: 43, if2: 41, storage: 41 },
+    TypeRow { core: 365, class_a: 72, if1: 49, if2: 47, storage: 47 },
+    TypeRow { core: 397, class_a: 72, if1: 53, if2: 51, storage: 51 },
+    TypeRow { core: 461, class_a: 72, if1: 61, if2: 59, storage: 59 },
+    TypeRow { core: 477, class_a: 72, if1: 63, if2: 61, storage: 61 },
+    TypeRow { core: 40, class_a: 40, if1: 8, if2: 6, storage: 6 },
+    TypeRow { core: 0, class_a: 0, if1: 0, if2: 0, storage: 0 },
+    TypeRow { core: 0, class_a: 0, if1: 0, if2: 0, storage: 0 },
+    TypeRow { core: 0, class_a: 0, if1: 0, if2: 0, storage: 0 },
+    TypeRow { core: 0, class_a: 0, if1: 0, if2: 0, storage: 0 },
+    TypeRow { core: 0, class_a: 0, if1: 1, if2: 1, storage: 1 },
+    TypeRow { core: 0, class_a: 0, if1: 1, if2: 1, storage: 1 },
+];
 
 // K, the bits of the core.
 pub fn core_bits(t: usize) -> usize
     requires { t < 16 }
     ensures { (result ≡ core_bits t) × (result ≤ 477) }
 {
-    let r = row(t);
-    r.core
+    TYPES[t].core
 }
 
 // The bits of Class A.
@@ -64,8 +50,7 @@ pub fn class_a(t: usize) -> usize
     requires { t < 16 }
     ensures { (result ≡ class_a t) × (result ≤ 477) }
 {
-    let r = row(t);
-    r.class_a
+    TYPES[t].class_a
 }
 
 // The octets of a frame; 0 for the reserved types.
@@ -73,7 +58,7 @@ pub fn octets_of(f: Format, t: usize) -> usize
     requires { t < 16 }
     ensures { (result ≡ octets (format_of f) t) × (result ≤ 477) }
 {
-    let r = row(t);
+    let r = &TYPES[t];
     match f {
         Format::If1 => r.if1,
         Format::If2 => r.if2,
@@ -101,52 +86,53 @@ pub fn octets_by_bits(f: Format, t: usize) -> usize
     (header_bits(f, t) + core_bits(t) + 7) / 8
 }
 
-// The filling bits of every type's frames, four bits for each, type 0 in the lowest.
+// The number of type `t` in a word of one number of `width` bits for each type, type 0 in the lowest. By shifts, since the scan of a recording asks
+// such numbers for every frame, and what comes of a `match` would become a jump for each type.
+fn digit(word: u64, width: usize, t: usize) -> usize
+    requires { (width ≤ 6) × (width * t < 64) }
+    ensures { result ≡ word / 2 ^ (width * t) % 2 ^ width }
+{
+    ((word >> (width * t)) & ((1u64 << width) - 1)) as usize
+}
+
+// The filling bits of every type's frames, four bits for each.
+#[tactic(auto, unfolding(crate::specs::Rows::fill_word, definitions::specs::Frames::core_bits, definitions::specs::Frames::octets))]
 fn fill_word(f: Format) -> u64
     ensures { result ≡ fill_word (format_of f) }
 {
     match f {
-        Format::If1 => 0x0000_0003_3333_3374,
+        Format::If1 | Format::Storage => 0x0000_0003_3333_3374,
         Format::If2 => 0x3300_0036_6666_6627,
-        Format::Storage => 0x0000_0003_3333_3374,
     }
 }
 
-// The filling bits behind the core. By shifts, since the scan of a recording asks it for every frame.
+// The filling bits behind the core.
 pub fn fill_bits(f: Format, t: usize) -> usize
     requires { known t ≡ true }
     ensures { (result ≡ fill_bits (format_of f) t) × (result ≤ 7) }
 {
-    ((fill_word(f) >> (4 * t)) & 7) as usize
+    digit(fill_word(f), 4, t)
 }
 
-// The octets of the packed core of each type that has one, six bits for each, type 0 in the lowest.
-fn core_word() -> u64
-    ensures { result ≡ core_word }
-{
-    0x017c_eb2b_a892_05d1
-}
+// The octets of the packed core of each type that has one, and those of its frame in IF2, six bits for each.
+const CORE_WORD: u64 = 0x017c_eb2b_a892_05d1;
 
-// The octets of the packed core, of a type that has one. By shifts, since what comes of a `match` would become a jump for each type.
+const IF2_WORD: u64 = 0x01bd_ef3b_e996_15d2;
+
+// The octets of the packed core, of a type that has one.
 pub fn core_octets(t: usize) -> usize
     requires { t ≤ 9 }
     ensures { result ≡ core_octets t }
 {
-    ((core_word() >> (6 * t)) & 63) as usize
+    digit(CORE_WORD, 6, t)
 }
 
-// The same of the octets in IF2.
-fn if2_word() -> u64
-    ensures { result ≡ if2_word }
-{
-    0x01bd_ef3b_e996_15d2
-}
-
+// The octets in IF2, of a type that has a core.
 pub fn if2_octets(t: usize) -> usize
     requires { t ≤ 9 }
     ensures { result ≡ octets if2 t }
 {
-    ((if2_word() >> (6 * t)) & 63) as usize
+    digit(IF2_WORD, 6, t)
 }
 
 // Whether a frame carries indication, request and CRC.
@@ -155,8 +141,7 @@ pub fn carries_modes(f: Format, t: usize) -> bool
 {
     match f {
         Format::If1 => t <= 9,
-        Format::If2 => false,
-        Format::Storage => false,
+        Format::If2 | Format::Storage => false,
     }
 }
 
@@ -165,8 +150,7 @@ pub fn spare_before(f: Format) -> usize
     ensures { (result ≡ spare_before (format_of f)) × (result ≤ 1) }
 {
     match f {
-        Format::If1 => 0,
-        Format::If2 => 0,
+        Format::If1 | Format::If2 => 0,
         Format::Storage => 1,
     }
 }

@@ -1,30 +1,19 @@
--- `fields::fields_good` meets its contract, test by test. Assumes nothing.
+-- `fields::fields_good` meets its contract: the modes are in range, and then the two rules are tested. Assumes nothing.
+use mathlib.Core.Path.{◌∙◌}
 use Rattle.frame.specs.Answers.{format_of}
-use Rattle.frame.proofs.FieldLaws.{indication_high, request_high, sid_wrong, fields_right}
+use Rattle.frame.proofs.FieldLaws.{sid_wrong, fields_right}
 use Rattle.frame.proofs.fields.fields_good.Goals as goal
 
-pub returns-then-i-gt-HIGHEST_MODE : goal.returns-then-i-gt-HIGHEST_MODE
-returns-then-i-gt-HIGHEST_MODE c =
+pub returns-else-sid_good : goal.returns-else-sid_good
+returns-else-sid_good c =
     λ q core sid.
     let a = c.args in
-    indication_high (format_of a.f) a.t q a.i a.r a.mode core sid c.if-i-gt-HIGHEST_MODE.true
+    c.if-sid_good.false ∙ sid_wrong (format_of a.f) a.t q a.i a.r a.mode core sid c.if-i-gt-HIGHEST_MODE.false c.if-r-gt-HIGHEST_MODE.false
+    c.sid_good.result c.sid_good.ensures c.if-sid_good.false
 
-pub returns-then-r-gt-HIGHEST_MODE : goal.returns-then-r-gt-HIGHEST_MODE
-returns-then-r-gt-HIGHEST_MODE c =
-    λ q core sid.
-    let a = c.args in
-    request_high (format_of a.f) a.t q a.i a.r a.mode core sid c.if-i-gt-HIGHEST_MODE.false c.if-r-gt-HIGHEST_MODE.true
-
-pub returns-then-not-sid_good : goal.returns-then-not-sid_good
-returns-then-not-sid_good c =
-    λ q core sid.
-    let a = c.args in
-    sid_wrong (format_of a.f) a.t q a.i a.r a.mode core sid c.if-i-gt-HIGHEST_MODE.false c.if-r-gt-HIGHEST_MODE.false
-    c.sid_good.result c.sid_good.ensures c.if-not-sid_good.true
-
-pub returns : goal.returns
-returns c =
+pub returns-then-sid_good : goal.returns-then-sid_good
+returns-then-sid_good c =
     λ q core sid.
     let a = c.args in
     fields_right (format_of a.f) a.t q a.i a.r a.mode core sid c.if-i-gt-HIGHEST_MODE.false c.if-r-gt-HIGHEST_MODE.false
-    c.sid_good.result c.sid_good.ensures c.if-not-sid_good.false c.uncarried_zero.result c.uncarried_zero.ensures
+    c.sid_good.result c.sid_good.ensures c.if-sid_good.true c.uncarried_zero.result c.uncarried_zero.ensures
