@@ -70,7 +70,7 @@ fn plain(f: Format, s: &[u8]) -> Option<usize>
         return None;
     }
     let x = front(f, s).ok()?;
-    (x.spare_clear() && sid_fine(f, s, usize::from(x.frame_type))).then_some(x.size)
+    (x.spare_clear() && sid_fine(f, s, x.frame_type)).then_some(x.size)
 }
 
 fn plain_front(f: Format, s: &[u8]) -> Option<usize>
@@ -121,7 +121,7 @@ pub fn core_out(f: Format, s: &[u8], h: FrameHeader, core: &mut [u8]) -> Result<
 {
     let t = h.frame_type as usize;
     let k = core_bits(t);
-    let m = (k + 7) / 8;
+    let m = k.div_ceil(8);
     if core.len() < m {
         return Err(Refusal::OutputShort);
     }

@@ -9,7 +9,7 @@ ghost use Rattle.frame.specs.Answers.{format_of, frame_with};
 
 use frame::fields::fields_good;
 use frame::table::{carries_modes, class_a, fill_bits, header_bits, spare_before};
-use frame::{Format, FrameHeader, IF1_CORE_AT, SID_MODE_AT};
+use frame::{Format, FrameHeader, HIGHEST_MODE, IF1_CORE_AT, SID, SID_MODE_AT};
 
 // Where IF1 has the indication, the request and the CRC, in bits.
 const INDICATION_AT: usize = 8;
@@ -17,11 +17,6 @@ const INDICATION_AT: usize = 8;
 const REQUEST_AT: usize = 12;
 
 const CRC_AT: usize = 16;
-
-// The papers' numbers at the widths that are asked here.
-const SID: usize = frame::SID as usize;
-
-const HIGHEST_MODE: u8 = frame::HIGHEST_MODE as u8;
 
 // The type that the first octet names.
 pub fn type_in(f: Format, s: &[u8]) -> u8
@@ -63,7 +58,7 @@ fn sid_mode(f: Format, s: &[u8]) -> u8
     requires { octets (format_of f) 9 ≤ length s.now }
     ensures { result ≡ num 4 (drop 36 (core_in (format_of f) 9 (bits s.now))) }
 {
-    bits::field_at(s, header_bits(f, SID) + SID_MODE_AT, 4)
+    bits::field_at(s, header_bits(f, SID as usize) + SID_MODE_AT, 4)
 }
 
 // Refusal 6's test of a frame that is read.
@@ -71,21 +66,17 @@ pub fn header_good(f: Format, s: &[u8], h: FrameHeader) -> bool
     requires { octets (format_of f) h.frame_type ≤ length s.now }
     ensures { result ≡ fields_good (format_of f) (frame_with h (core_in (format_of f) h.frame_type (bits s.now))) }
 {
-    let t = h.frame_type as u64;
-    let i = h.indication as u64;
-    let r = h.request as u64;
-    if t == SID as u64 {
-        return fields_good(f, t, i, r, sid_mode(f, s) as u64);
-    }
-    fields_good(f, t, i, r, 0)
+    let t = u64::from(h.frame_type);
+    let mode = if t == SID { sid_mode(f, s) } else { 0 };
+    fields_good(f, t, u64::from(h.indication), u64::from(h.request), u64::from(mode))
 }
 
 // Of a SID frame the mode is at most 8. Its octets are all that it asks, and so of `header_good`.
-pub fn sid_fine(f: Format, s: &[u8], t: usize) -> bool
+pub fn sid_fine(f: Format, s: &[u8], t: u8) -> bool
     requires { octets (format_of f) t ≤ length s.now }
     ensures { result ≡ true → t ≡ 9 → num 4 (drop 36 (core_in (format_of f) t (bits s.now))) ≤ 8 }
 {
-    t != SID || sid_mode(f, s) <= HIGHEST_MODE
+    u64::from(t) != SID || u64::from(sid_mode(f, s)) <= HIGHEST_MODE
 }
 
 // A frame that stands whole at the start of the octets `s`: of a known type, and with all its octets there.

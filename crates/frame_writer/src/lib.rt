@@ -11,7 +11,7 @@ use frame::table::{carries_modes, class_a, core_bits, header_bits};
 use frame::{Format, FrameHeader, IF1_CORE_AT};
 
 // Where IF1 has the core, in bits.
-const CORE_BIT: usize = 24;
+const CORE_BIT: usize = 8 * IF1_CORE_AT;
 
 // The octet of type and quality, with spare bits 0.
 pub fn first_octet(f: Format, t: u8, q: u8) -> u8
@@ -20,8 +20,7 @@ pub fn first_octet(f: Format, t: u8, q: u8) -> u8
 {
     let v = t * 2 + q;
     match f {
-        Format::If1 => v * 8,
-        Format::If2 => v * 8,
+        Format::If1 | Format::If2 => v * 8,
         Format::Storage => v * 4,
     }
 }

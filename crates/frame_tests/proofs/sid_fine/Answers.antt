@@ -8,16 +8,16 @@ use Rattle.definitions.specs.Frames.{octets, core_in}
 use Rattle.frame.specs.Answers.{format_of}
 use Rattle.frame_tests.proofs.sid_fine.Goals as goal
 
-pub returns-then-t-ne-SID : goal.returns-then-t-ne-SID
-returns-then-t-ne-SID c =
-    λ r e. absurd (c.if-t-ne-SID.true e)
+pub returns-then-from-ne-SID : goal.returns-then-from-ne-SID
+returns-then-from-ne-SID c =
+    λ r e. absurd (c.if-from-ne-SID.true (c.from.ensures ∙ e))
 
 pub sid_mode-requires : goal.sid_mode-requires
 sid_mode-requires c =
-    subst (λ t. octets (format_of c.args.f) t ≤ length c.args.s.now) c.if-t-ne-SID.false c.requires
+    subst (λ t. octets (format_of c.args.f) t ≤ length c.args.s.now) (sym c.from.ensures ∙ c.if-from-ne-SID.false) c.requires
 
-pub returns-else-t-ne-SID : goal.returns-else-t-ne-SID
-returns-else-t-ne-SID c =
+pub returns-else-from-ne-SID : goal.returns-else-from-ne-SID
+returns-else-from-ne-SID c =
     λ r e.
     let a = c.args in
-    subst (λ m. m ≤ 8) (c.sid_mode.ensures ∙ ap (λ t. num 4 (drop 36 (core_in (format_of a.f) t (bits a.s.now)))) (sym e)) (leb-true _ _ r)
+    subst (λ m. m ≤ 8) (c.from-else-from-ne-SID.ensures ∙ c.sid_mode.ensures ∙ ap (λ t. num 4 (drop 36 (core_in (format_of a.f) t (bits a.s.now)))) (sym e)) (leb-true _ _ r)
