@@ -70,6 +70,7 @@ fn count_frames(s: &[u8]) -> Result<Report, RefusedAt>
 }
 
 // The report on a recording, or the refusal with its place. An entry.
+#[tactic(auto, unfolding(recordings::specs::Report::report_call, recordings::specs::Recordings::read_recording))]
 pub fn report_recording(s: &[u8]) -> Result<Report, RefusedAt>
     ensures { reported_of result ≡ report_call s.now }
 {
