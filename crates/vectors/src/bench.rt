@@ -1,14 +1,11 @@
 // Document 01, "Bench cases": the line without P.
-use crate::print::{number, refusal, text};
 use std::io::Result;
 
 // IF2 of type 0, good, in so many octets.
 fn if2_octets(rt: &impl Print, s: &[u8]) -> Result<()> {
     let mut core = [0u8; 60];
     let a = level_three::amrwb_read_frame(2, s, &mut core);
-    text(rt, b"bench IF2 type 0 octets ")?;
-    number(rt, s.len() as u64)?;
-    refusal(rt, a.refusal)
+    println!(rt; "bench IF2 type 0 octets {} refusal {}", s.len(), a.refusal)
 }
 
 // IF1 of type 0, good, with a mode request.
@@ -18,26 +15,20 @@ fn if1_request(rt: &impl Print, request: u8) -> Result<()> {
     s[1] = request;
     let mut core = [0u8; 60];
     let a = level_three::amrwb_read_frame(1, &s, &mut core);
-    text(rt, b"bench IF1 type 0 request ")?;
-    number(rt, request as u64)?;
-    refusal(rt, a.refusal)
+    println!(rt; "bench IF1 type 0 request {request} refusal {}", a.refusal)
 }
 
 fn conversion_request(rt: &impl Print, request: u64) -> Result<()> {
     let mut out = [0u8; 0];
     let a = level_three::amrwb_convert(2, 1, request, b"", &mut out);
-    text(rt, b"bench convert request ")?;
-    number(rt, request)?;
-    refusal(rt, a.refusal)
+    println!(rt; "bench convert request {request} refusal {}", a.refusal)
 }
 
 // A set of one combination, of type 15.
 fn assign_rfci(rt: &impl Print, rfci: u64) -> Result<()> {
     let rows = [rfci, 15, 0, 0, 0];
     let a = level_three::amrwb_link_assign(level_three::amrwb_link_fresh(), &rows);
-    text(rt, b"bench assign RFCI ")?;
-    number(rt, rfci)?;
-    refusal(rt, a.refusal)
+    println!(rt; "bench assign RFCI {rfci} refusal {}", a.refusal)
 }
 
 // Up, where the set has RFCI 63.
@@ -46,9 +37,7 @@ fn up_rfci(rt: &impl Print, rfci: u64) -> Result<()> {
     let link = level_three::amrwb_link_assign(level_three::amrwb_link_fresh(), &rows).link;
     let mut out = [0u8; 64];
     let a = level_three::amrwb_link_up(link, 0, rfci, b"", b"", b"", &mut out);
-    text(rt, b"bench up RFCI ")?;
-    number(rt, rfci)?;
-    refusal(rt, a.refusal)
+    println!(rt; "bench up RFCI {rfci} refusal {}", a.refusal)
 }
 
 pub fn print_cases(rt: &impl Print) -> Result<()> {

@@ -1,6 +1,9 @@
 // TS 26.201, tables 5 and 6 (IF1) and A.1a, A.2 and A.3 (IF2), as docs/DECISIONS.md corrects them.
-use crate::places::{NO_BIT, blank, difference, set_bit};
-use crate::print::{number, octets, refusal, text};
+ghost use Rattle.std.specs.Prelude.{◌≤◌};
+
+use crate::places::{ROOM, core_of};
+use crate::print::Octets;
+use std::fmt;
 use std::io::Result;
 
 // Octets of an IF1 frame before its core.
@@ -14,137 +17,87 @@ enum Table {
     A2,
 }
 
-fn print_name(rt: &impl Print, table: Table) -> Result<()> {
+impl fmt::Display for Table {
+    fn fmt<W: fmt::Write>(&self, f: &mut fmt::Formatter<W>) -> fmt::Result {
+        match self {
+            Table::Five => write!(f, "table 5"),
+            Table::Six => write!(f, "table 6"),
+            Table::A1a => write!(f, "table A.1a"),
+            Table::A2 => write!(f, "table A.2"),
+        }
+    }
+}
+
+// The table's frame, in which d(j) alone is 1, or no bit of the core.
+fn frame_of(table: Table, bit: Option<usize>) -> [u8; ROOM] {
+    let mut out = [0u8; ROOM];
     match table {
-        Table::Five => text(rt, b"table 5"),
-        Table::Six => text(rt, b"table 6"),
-        Table::A1a => text(rt, b"table A.1a"),
-        Table::A2 => text(rt, b"table A.2"),
-    }
-}
-
-// 12.65 kbit/s, good, mode request 1.
-fn frame_five(j: usize) -> [u8; 320] {
-    let mut core = [0u8; 32];
-    set_bit(&mut core, j);
-    let mut out = blank();
-    level_three::amrwb_build_if1(2, 1, 2, 1, &core, &mut out);
+        // 12.65 kbit/s, good, mode request 1
+        Table::Five => level_three::amrwb_build_if1(2, 1, 2, 1, &core_of::<32>(bit), &mut out),
+        // SID, good, mode request 2
+        Table::Six => level_three::amrwb_build_if1(9, 1, 0, 2, &core_of::<5>(bit), &mut out),
+        // 8.85 kbit/s, good
+        Table::A1a => level_three::amrwb_build_if2(1, 1, &core_of::<23>(bit), &mut out),
+        // SID, good
+        Table::A2 => level_three::amrwb_build_if2(9, 1, &core_of::<5>(bit), &mut out),
+    };
     out
 }
 
-// SID, good, mode request 2.
-fn frame_six(j: usize) -> [u8; 320] {
-    let mut core = [0u8; 5];
-    set_bit(&mut core, j);
-    let mut out = blank();
-    level_three::amrwb_build_if1(9, 1, 0, 2, &core, &mut out);
-    out
-}
-
-// 8.85 kbit/s, good.
-fn frame_a1a(j: usize) -> [u8; 320] {
-    let mut core = [0u8; 23];
-    set_bit(&mut core, j);
-    let mut out = blank();
-    level_three::amrwb_build_if2(1, 1, &core, &mut out);
-    out
-}
-
-// SID, good.
-fn frame_a2(j: usize) -> [u8; 320] {
-    let mut core = [0u8; 5];
-    set_bit(&mut core, j);
-    let mut out = blank();
-    level_three::amrwb_build_if2(9, 1, &core, &mut out);
-    out
-}
-
-// The table's frame in which d(j) alone is 1.
-fn frame_of(table: Table, j: usize) -> [u8; 320] {
-    match table {
-        Table::Five => frame_five(j),
-        Table::Six => frame_six(j),
-        Table::A1a => frame_a1a(j),
-        Table::A2 => frame_a2(j),
-    }
-}
-
-// The number of an octet's only bit, as the tables count: the top one is 8.
-fn bit_number(o: u8) -> u64 {
-    match o {
-        0x80 => 8,
-        0x40 => 7,
-        0x20 => 6,
-        0x10 => 5,
-        0x08 => 4,
-        0x04 => 3,
-        0x02 => 2,
-        0x01 => 1,
-        _ => 0,
-    }
-}
-
-// Octets count from 1.
+// The first octet, behind some, in which the two differ, and its bit. Octets count from 1; an octet's top bit is 8.
 fn print_place(
     rt: &impl Print,
-    without: &[u8; 320],
-    with: &[u8; 320],
+    without: &[u8; ROOM],
+    with: &[u8; ROOM],
     behind: usize,
 ) -> Result<()> {
-    let i = difference(without, with, behind);
-    if i < 320 {
-        text(rt, b" octet ")?;
-        number(rt, i as u64 + 1)?;
-        text(rt, b" bit ")?;
-        number(rt, bit_number(without[i] ^ with[i]))?;
+    let place = (1..=ROOM)
+        .zip(without.iter().zip(with))
+        .skip(behind)
+        .find(|(_, (a, b))| a != b);
+    if let Some((i, (a, b))) = place {
+        print!(rt; " octet {i} bit {}", u8::BITS - (*a ^ *b).leading_zeros())?;
     }
     Ok(())
 }
 
 // Where d(j) stands, and in IF1 the CRC of the frame in which it alone is 1.
 fn print_bit(rt: &impl Print, table: Table, j: usize) -> Result<()> {
-    let without = frame_of(table, NO_BIT);
-    let with = frame_of(table, j);
-    print_name(rt, table)?;
-    text(rt, b" d(")?;
-    number(rt, j as u64)?;
-    text(rt, b")")?;
+    let without = frame_of(table, None);
+    let with = frame_of(table, Some(j));
+    print!(rt; "{table} d({j})")?;
     match table {
         Table::Five | Table::Six => {
             print_place(rt, &without, &with, BEFORE_CORE)?;
-            text(rt, b" CRC")?;
-            octets(rt, &[with[2]], 1)?;
+            println!(rt; " CRC {:02x}", with[2])
         }
-        Table::A1a | Table::A2 => print_place(rt, &without, &with, 0)?,
+        Table::A1a | Table::A2 => {
+            print_place(rt, &without, &with, 0)?;
+            println!(rt; "")
+        }
     }
-    text(rt, b"\n")
 }
 
 fn print_bits(rt: &impl Print, table: Table, bits: usize) -> Result<()> {
-    let mut j: usize = 0;
-    while j < bits {
+    for j in 0..bits {
         print_bit(rt, table, j)?;
-        j += 1;
     }
     Ok(())
 }
 
-// The table's frame without a bit of the core.
-fn print_frame(rt: &impl Print, table: Table, n: u64) -> Result<()> {
-    let frame = frame_of(table, NO_BIT);
-    print_name(rt, table)?;
-    text(rt, b" frame")?;
-    octets(rt, &frame, n)?;
-    text(rt, b"\n")
+// The table's frame, of n octets, without a bit of the core.
+fn print_frame(rt: &impl Print, table: Table, n: usize) -> Result<()>
+    requires { n ≤ ROOM }
+{
+    let frame = frame_of(table, None);
+    println!(rt; "{table} frame{}", Octets(&frame[..n]))
 }
 
 // What a frame is refused for whose octets are as printed.
 fn print_printed(rt: &impl Print, table: Table, frame: &[u8]) -> Result<()> {
-    let mut core = blank();
+    let mut core = [0u8; ROOM];
     let a = level_three::amrwb_read_frame(1, frame, &mut core);
-    print_name(rt, table)?;
-    text(rt, b" printed")?;
-    refusal(rt, a.refusal)
+    println!(rt; "{table} printed refusal {}", a.refusal)
 }
 
 fn print_table_five(rt: &impl Print) -> Result<()> {
@@ -162,10 +115,7 @@ fn print_table_six(rt: &impl Print) -> Result<()> {
     let update = [0, 0, 0, 0, 0x13];
     let mut frame = [0u8; 8];
     level_three::amrwb_build_if1(9, 1, 0, 2, &update, &mut frame);
-    print_name(rt, Table::Six)?;
-    text(rt, b" frame")?;
-    octets(rt, &frame, 8)?;
-    text(rt, b"\n")?;
+    println!(rt; "{} frame{}", Table::Six, Octets(&frame))?;
     // type 8
     frame[0] = 0x88;
     print_printed(rt, Table::Six, &frame)?;
@@ -176,13 +126,10 @@ fn print_table_six(rt: &impl Print) -> Result<()> {
 fn print_table_a3(rt: &impl Print, frame_type: u64, quality: u64) -> Result<()> {
     let mut out = [0u8; 1];
     level_three::amrwb_build_if2(frame_type, quality, b"", &mut out);
-    text(rt, b"table A.3 type ")?;
-    number(rt, frame_type)?;
-    text(rt, b" quality ")?;
-    number(rt, quality)?;
-    text(rt, b" frame")?;
-    octets(rt, &out, 1)?;
-    text(rt, b"\n")
+    println!(rt;
+        "table A.3 type {frame_type} quality {quality} frame{}",
+        Octets(&out)
+    )
 }
 
 pub fn print_tables(rt: &impl Print) -> Result<()> {
