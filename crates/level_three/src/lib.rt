@@ -3,119 +3,22 @@
 #![tactic(auto)]
 
 ghost use Rattle.std.specs.Prelude.{◌≡◌, length};
-ghost use Rattle.definitions.specs.Frames.{if1, if2, storage};
-ghost use Rattle.definitions.specs.Reading.{read_call, build_frame};
-ghost use Rattle.definitions.specs.Order.{to_core_call, to_row_call};
-ghost use Rattle.definitions.specs.Reception.{reception_class};
-ghost use Rattle.recordings.specs.Recordings.{validate_call};
-ghost use Rattle.recordings.specs.Conversion.{convert_call, length_call};
-ghost use Rattle.recordings.specs.Viewer.{open_call, view_call};
-ghost use Rattle.recordings.specs.Report.{report_call};
 ghost use Rattle.links.specs.Calls.{fresh_link, up_call, down_call};
 ghost use Rattle.links.specs.History.{link_step, assign, release, rate};
-ghost use Rattle.answers.specs.Flat.{placed_numbers, FlatConversion, FlatOutput, FlatFrame};
-ghost use Rattle.level_two.specs.Flat.{class_numbers, open_numbers, FlatView, report_numbers};
+ghost use Rattle.answers.specs.Flat.{FlatOutput};
 ghost use Rattle.link_answers.specs.Flat.{link_numbers, FlatDown};
 
-use answers::{Answer, FrameAnswer, built_answer};
-use level_two::{ClassAnswer, ReportAnswer, ViewAnswer};
-use link_answers::{DownNumbers, LinkAnswer, down_answer, moved_answer};
+pub use level_two::{
+    amrwb_build_if1, amrwb_build_if2, amrwb_build_stored, amrwb_class, amrwb_convert,
+    amrwb_convert_length, amrwb_order_to_core, amrwb_order_to_row, amrwb_read_frame, amrwb_report,
+    amrwb_validate, amrwb_view_next, amrwb_view_open,
+};
+
+use answers::Answer;
+use downlink::DownAnswer;
+use link_answers::{DownNumbers, LinkAnswer, moved_answer};
 use links::Link;
-
-// Level two's calls, as they are there.
-
-pub fn amrwb_validate(format: u64, rec: &[u8]) -> Answer
-    ensures { result ≡ placed_numbers (validate_call format rec.now) }
-{
-    level_two::amrwb_validate(format, rec)
-}
-
-pub fn amrwb_convert(from: u64, to: u64, request: u64, rec: &[u8], out: &mut [u8]) -> Answer
-    ensures { FlatConversion (convert_call from to request rec.now (length out.old)) out.old out.new result }
-{
-    level_two::amrwb_convert(from, to, request, rec, out)
-}
-
-pub fn amrwb_convert_length(from: u64, to: u64, request: u64, rec: &[u8]) -> Answer
-    ensures { result ≡ placed_numbers (length_call from to request rec.now) }
-{
-    level_two::amrwb_convert_length(from, to, request, rec)
-}
-
-pub fn amrwb_read_frame(format: u64, octets: &[u8], core: &mut [u8]) -> FrameAnswer
-    ensures { FlatFrame (read_call format octets.now (length core.old)) core.old core.new result }
-{
-    level_two::amrwb_read_frame(format, octets, core)
-}
-
-pub fn amrwb_build_if1(
-    frame_type: u64,
-    quality: u64,
-    indication: u64,
-    request: u64,
-    core: &[u8],
-    out: &mut [u8],
-) -> Answer
-    ensures { FlatOutput (build_frame if1 frame_type quality indication request core.now (length out.old)) out.old out.new result }
-{
-    level_two::amrwb_build_if1(frame_type, quality, indication, request, core, out)
-}
-
-pub fn amrwb_build_if2(frame_type: u64, quality: u64, core: &[u8], out: &mut [u8]) -> Answer
-    ensures { FlatOutput (build_frame if2 frame_type quality 0 0 core.now (length out.old)) out.old out.new result }
-{
-    level_two::amrwb_build_if2(frame_type, quality, core, out)
-}
-
-pub fn amrwb_build_stored(frame_type: u64, quality: u64, core: &[u8], out: &mut [u8]) -> Answer
-    ensures { FlatOutput (build_frame storage frame_type quality 0 0 core.now (length out.old)) out.old out.new result }
-{
-    level_two::amrwb_build_stored(frame_type, quality, core, out)
-}
-
-pub fn amrwb_order_to_core(mode: u64, row: &[u8], core: &mut [u8]) -> Answer
-    ensures { FlatOutput (to_core_call mode row.now (length core.old)) core.old core.new result }
-{
-    level_two::amrwb_order_to_core(mode, row, core)
-}
-
-pub fn amrwb_order_to_row(mode: u64, core: &[u8], row: &mut [u8]) -> Answer
-    ensures { FlatOutput (to_row_call mode core.now (length row.old)) row.old row.new result }
-{
-    level_two::amrwb_order_to_row(mode, core, row)
-}
-
-pub fn amrwb_class(frame_type: u64, quality: u64, sti: u64) -> ClassAnswer
-    ensures { result ≡ class_numbers (reception_class frame_type quality sti) }
-{
-    level_two::amrwb_class(frame_type, quality, sti)
-}
-
-pub fn amrwb_view_open(format: u64, rec: &[u8]) -> ViewAnswer
-    ensures { result ≡ open_numbers (open_call format rec.now) }
-{
-    level_two::amrwb_view_open(format, rec)
-}
-
-pub fn amrwb_view_next(
-    format: u64,
-    offset: u64,
-    number: u64,
-    rec: &[u8],
-    core: &mut [u8],
-) -> ViewAnswer
-    ensures { FlatView (view_call format offset number rec.now (length core.old)) (number, offset) core.old core.new result }
-{
-    level_two::amrwb_view_next(format, offset, number, rec, core)
-}
-
-pub fn amrwb_report(rec: &[u8]) -> ReportAnswer
-    ensures { result ≡ report_numbers (report_call rec.now) }
-{
-    level_two::amrwb_report(rec)
-}
-
-// The link.
+use uplink_judge::SubflowOctets;
 
 pub fn amrwb_link_fresh() -> Link
     ensures { result ≡ fresh_link }
@@ -126,19 +29,19 @@ pub fn amrwb_link_fresh() -> Link
 pub fn amrwb_link_assign(link: Link, rows: &[u64]) -> LinkAnswer
     ensures { result ≡ link_numbers (link_step link (assign rows.now)) }
 {
-    moved_answer(link_state::assign(link, rows))
+    moved_answer(link, link_state::assign(link, rows))
 }
 
 pub fn amrwb_link_release(link: Link) -> LinkAnswer
     ensures { result ≡ link_numbers (link_step link release) }
 {
-    moved_answer(link_state::release(link))
+    moved_answer(link, link_state::release(link))
 }
 
 pub fn amrwb_link_rate(link: Link, mode: u64) -> LinkAnswer
     ensures { result ≡ link_numbers (link_step link (rate mode)) }
 {
-    moved_answer(link_state::rate_command(link, mode))
+    moved_answer(link, link_state::rate_command(link, mode))
 }
 
 pub fn amrwb_link_up(
@@ -152,7 +55,8 @@ pub fn amrwb_link_up(
 ) -> Answer
     ensures { FlatOutput (up_call link fqc rfci s1.now s2.now s3.now (length out.old)) out.old out.new result }
 {
-    built_answer(uplink::join_frame(link, fqc, rfci, s1, s2, s3, out))
+    let s = SubflowOctets { s1, s2, s3 };
+    uplink::join_frame(link, fqc, rfci, s, out).into()
 }
 
 pub fn amrwb_link_down(
@@ -164,12 +68,9 @@ pub fn amrwb_link_down(
 ) -> DownNumbers
     ensures { FlatDown (down_call link frame.now (length s1.old) (length s2.old) (length s3.old)) link s1.old s1.new s2.old s2.new s3.old s3.new result }
 {
-    let d = downlink::split_frame(link, frame, s1, s2, s3);
-    let set = link.set;
-    let next = Link {
-        set,
-        request: link.request,
-        forwarded: downlink::forwarded_after(link.forwarded, d),
-    };
-    down_answer(d, next)
+    // Not by `down`: an answer that is handed on once more takes time.
+    let answer = downlink::split_frame(link, frame, s1, s2, s3);
+    let forwarded = downlink::forwarded_after(link.forwarded, answer);
+    let link = Link { forwarded, ..link };
+    DownAnswer { answer, link }.into()
 }
