@@ -412,9 +412,6 @@ bits_put i a k s y v h f e =
 
 -- ---- a copy that grows
 
-pub copied-zero : (d : List Bool) (at : ℕ) (t : List Bool) → copied d at t 0 ≡ d
-copied-zero d at t = rw add-zero (take-append-drop at d)
-
 pub copied_more : (d x : List Bool) (at : ℕ) (t : List Bool) (m k : ℕ) → at + m + k ≤ length d → m + k ≤ length t
     → x ≡ copied d at t m
     → take (at + m) x ++ (take k (drop m t) ++ drop (at + m + k) x) ≡ copied d at t (m + k)
@@ -539,13 +536,6 @@ module _ (src d : List ℕ) (from k j : ℕ) where
       bits-set j d y (omega arith)
       ∙ ap₂ (λ (p q : List Bool). take (8 * j) (bits d) ++ (p ++ q)) new (bits-drop (suc j) d ∙ ap (λ (i : ℕ). drop i (bits d)) place)
       ∙ ap (λ (q : List Bool). take (8 * j) (bits d) ++ q) (append_assoc (take k s) (replicate (8 * octets_for k - k) false) (drop (8 * (j + octets_for k)) (bits d)))
-
--- no bits, no octet
-pub no_last : (src d : List ℕ) (from k j : ℕ) → k ≤ 0 → Last src d from k j d
-no_last src d from k j h =
-    let z : 0 ≡ k = omega arith in
-    subst (λ (i : ℕ). Last src d from i j d) z
-    (sym (ap (λ (i : ℕ). take (8 * j) (bits d) ++ drop (8 * i) (bits d)) (add-zero j) ∙ take-append-drop (8 * j) (bits d)))
 
 -- ---- octets of a run of bits, written from the front on
 

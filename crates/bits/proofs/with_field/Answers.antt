@@ -1,15 +1,10 @@
 -- `bits::with_field` meets its contract: the mask clears the field, and the shifted number goes into it. Assumes nothing.
-use borrow.Author.Rules.{rules}
 use native.Mathlib.Omega.{arith}
-use Rattle.bits.proofs.Masks.{one_shl, shifted_ones-le, put_code_is, put-digits, put-lt}
+use Rattle.bits.proofs.Masks.{shifted_ones-le, put_code_is, put-digits, put-lt}
 use Rattle.bits.specs.Bits.{digits}
 use mathlib.Core.Path.{ap, ◌∙◌}
 use Prim.Native.Nat.{ℕ, ◌-◌}
-use lib.Pow.{pow_pos}
 use Rattle.bits.proofs.with_field.Goals as goal
-
-pub overflow_sub-m : goal.overflow_sub-m
-overflow_sub-m c = omega (arith, one_shl c.args.k (search rules), pow_pos c.args.k)
 
 pub overflow_sub-kept : goal.overflow_sub-kept
 overflow_sub-kept c = shifted_ones-le c.args.k (8 - c.args.a - c.args.k) (omega arith)
