@@ -2,25 +2,23 @@
 use mathlib.Core.Path.{◌≡◌, refl, sym, ap, ap₂, ◌∙◌, subst}
 use mathlib.Core.Bool.{Bool, true, false, not, ◌||◌, cond}
 use mathlib.Core.Logic.{◌≢◌}
-use mathlib.Core.List.{List, [], ◌∷◌, ◌++◌, append_assoc, append-nil}
-use Prim.Native.Nat.{ℕ, suc, ◌+◌, ◌-◌, ◌*◌, ◌/◌, ◌^◌, ◌<◌, ◌≤◌}
+use mathlib.Core.List.{List, [], ◌∷◌, ◌++◌, append-nil}
+use Prim.Native.Nat.{ℕ, ◌+◌, ◌-◌, ◌*◌, ◌/◌, ◌^◌, ◌<◌, ◌≤◌}
 use native.Mathlib.Nat.{mod-eq_of_lt}
 use native.Mathlib.Omega.{arith}
 use lib.Dec.{eqb, leb}
 use lib.ListN.{length, take, drop, get_or, set, length-append, length-take}
-use lib.Seq.{drop_at, take-take}
+use lib.Seq.{drop_at}
 use borrow.Author.Tests.{leb-true, le-leb, lt-leb, eqb-true}
 use Rattle.bits.specs.Bits.{odd, digits, num, bits, packs, pack, octets_for, Octets}
-use Rattle.bits.proofs.BitLaws.{length_digits, num-lt, num-digits, num_front, num-append, take_packed, octet_field}
+use Rattle.bits.proofs.BitLaws.{num-lt, num-digits, num_front, num-append, octet_field}
 use Rattle.bits.proofs.Tests.{or_else, given, every_below_lem}
-use Rattle.parity.specs.Crc.{crc}
-use Rattle.parity.proofs.Guarded.{octet-bits}
-use Rattle.definitions.specs.Frames.{Format, if1, if2, storage, Frame, known, core_bits, class_a, octets, core_octets, modes_and_crc, header, layout, quality_in, type_in, frame_in}
+use Rattle.definitions.specs.Frames.{Format, if1, if2, storage, Frame, frame_by, known, core_bits, octets, modes_and_crc, header, layout, quality_in, type_in, frame_in}
 use Rattle.definitions.specs.Claims.{Valid, Begins}
-use Rattle.definitions.proofs.Tables.{sized, known-below, class_a_within}
-use Rattle.definitions.proofs.Frames.{length-header, judged, begins-read}
+use Rattle.definitions.proofs.Tables.{sized, known-below}
+use Rattle.definitions.proofs.Frames.{judged, begins-read}
 use Rattle.recordings.specs.Conversion.{with_modes, without_modes, carried}
-use Rattle.frame_writer.proofs.WriterLaws.{first_bits, long_header, octets-three, second_octet}
+use Rattle.frame_writer.proofs.WriterLaws.{first_bits}
 use Rattle.core_mover.specs.Carriable.{core_at, behind, Carriable, CoreMoved}
 use Rattle.frame_carrier.proofs.CarryLaws.{frame_bits, layout-packs, joined}
 use Rattle.core_mover.proofs.CoreLaws.{sizes, aligned_header, source_long, whole-stream}
@@ -30,13 +28,6 @@ use Rattle.core_mover.proofs.CoreLaws.{sizes, aligned_header, source_long, whole
 five_then : (a b c d e : Bool) (l : List Bool) → num 8 (a ∷ b ∷ c ∷ d ∷ e ∷ l) ≡ num 5 (a ∷ b ∷ c ∷ d ∷ e ∷ []) * 8 + num 3 l
 unfolding num
 five_then a b c d e l = omega arith
-
-packs-bits : (s : List ℕ) (l : List Bool) → Octets s → packs (length s) (bits s ++ l) ≡ s
-unfolding packs bits
-packs-bits [] l o = refl
-packs-bits (x ∷ s) l o =
-    ap₂ ◌∷◌ (ap (num 8) (append_assoc (digits 8 x) (bits s) l) ∙ num_front 8 x (bits s ++ l) (o 0))
-    (ap (packs (length s)) (ap (drop 8) (append_assoc (digits 8 x) (bits s) l) ∙ drop_at (digits 8 x) (bits s ++ l) 8 (length_digits 8 x)) ∙ packs-bits s l (λ i. o (suc i)))
 
 -- ---- each format's first octets
 
@@ -173,59 +164,15 @@ carry_if2 f r src out x o i y d os c h lo e ei ey ed =
     (sym (first-filled t x.quality o lo x.core (y / 2 ^ 5) e top)) d
     (octets if2 t - 1) (omega (arith, z.some, z.in_if2, z.one)) (some-room f if2 r src out x c) ed
 
--- the three octets of IF1
-core-crc : (f : Format) (src out : List ℕ) (x : Frame) (d : List ℕ) → Valid f x → x.type ≤ 9 → 3 ≤ length out
+-- towards IF1 the packed core stands behind three octets
+carry_if1 : (f : Format) (src out : List ℕ) (x : Frame) (d : List ℕ) → Carriable f if1 src x out → x.type ≤ 9
     → d ≡ take 3 out ++ (packs (octets if1 x.type - 3) x.core ++ drop (octets if1 x.type) out)
-    → (drop 3 d ≡ packs (octets if1 x.type - 3) x.core ++ drop (octets if1 x.type) out)
-    × (take (class_a x.type) (bits (drop 3 d)) ≡ take (class_a x.type) x.core)
+    → (length (take 3 out) ≡ 3) × (d ≡ take 3 out ++ (pack x.core ++ drop (octets if1 x.type) out))
 unfolding pack
-core-crc f src out x d v h l ed =
-    let t = x.type in
-    let r = packs (octets if1 t - 3) x.core ++ drop (octets if1 t) out in
-    let a : drop 3 d ≡ packs (octets if1 x.type - 3) x.core ++ drop (octets if1 x.type) out =
-    ap (drop 3) ed ∙ drop_at (take 3 out) r 3 (omega (arith, length-take 3 out)) in
-    let m : octets if1 x.type - 3 ≡ octets_for (length x.core) = omega (arith, (sizes t h).in_if1) ∙ ap octets_for (sym v.core_length) in
-    let k : class_a x.type ≤ length x.core = omega (arith, (class_a_within t v.type_known).0, v.core_length) in (
-      a,
-      ap (λ s. take (class_a t) (bits s)) (a ∙ ap (λ n. packs n x.core ++ drop (octets if1 t) out) m)
-          ∙ sym (take-take (class_a t) (length x.core) (bits (packs (octets_for (length x.core)) x.core ++ drop (octets if1 t) out)) k)
-          ∙ ap (take (class_a t)) (take_packed x.core (drop (octets if1 t) out)),
-    )
-
-pub carry_if1 : (f : Format) (r : ℕ) (src out : List ℕ) (x : Frame) (o p c : ℕ) (d : List ℕ) → Carriable f if1 src x out → x.type ≤ 9 → r ≤ 8 → o < 256
-    → digits 8 o ≡ first_bits if1 x.type x.quality → p ≡ cond (leb x.type 8) x.type 0 * 16 + r
-    → c ≡ num 8 (crc (take (class_a x.type) (bits (drop 3 d))))
-    → d ≡ take 3 out ++ (packs (octets if1 x.type - 3) x.core ++ drop (octets if1 x.type) out)
-    → o ∷ p ∷ c ∷ drop 3 d ≡ layout if1 (with_modes r x) ++ drop (octets if1 x.type) out
-carry_if1 f r src out x o p c d ca h hr lo eo ep ec ed =
-    let t = x.type in
-    let v = valid f if1 r src out x ca in
-    let z = sizes t h in
-    let q = core-crc f src out x d v h (omega (arith, ca.room, z.in_if1)) ed in
-    let y = with_modes r x in
-    let i : ℕ = cond (leb t 8) t 0 in
-    let req : cond (leb x.type 9) r 0 ≡ r = ap (λ b. cond b r 0) (le-leb t 9 h) in
-    let hp : digits 8 p ≡ digits 4 (cond (leb x.type 8) x.type 0) ++ digits 4 (cond (leb x.type 9) r 0) =
-    ap (digits 8) ep ∙ second_octet i r (omega arith) ∙ ap (λ n. digits 4 i ++ digits 4 n) (sym req) in
-    let hc : digits 8 c ≡ crc (take (class_a x.type) x.core) = octet-bits (take (class_a t) x.core) c (ec ∙ ap (λ l. num 8 (crc l)) q.1) in
-    let hd : header if1 (with_modes r x) ≡ bits (o ∷ p ∷ c ∷ []) = long_header y o p c (le-leb t 9 h) eo hp hc in
-    let low : cond (leb x.type 8) x.type 0 ≤ 8 = indication_low (leb t 8) refl in
-    let oc : Octets (o ∷ p ∷ c ∷ []) = octets-three o p c lo (omega (arith, ep, low)) (omega (arith, ec, num-lt 8 (crc (take (class_a t) (bits (drop 3 d)))))) in
-    let front : o ∷ p ∷ c ∷ [] ≡ packs 3 (frame_bits if1 (with_modes r x)) = sym (ap (λ b. packs 3 (b ++ x.core)) hd ∙ packs-bits (o ∷ p ∷ c ∷ []) x.core oc) in
-    let back : x.core ≡ drop (8 * 3) (frame_bits if1 (with_modes r x)) =
-    sym (drop_at (header if1 y) x.core 24 (length-header if1 y ∙ ap (λ b. cond b 24 8) (le-leb t 9 h))) in
-    ap (λ w. o ∷ p ∷ c ∷ w) (q.0 ∙ ap (λ w. packs (octets if1 t - 3) w ++ drop (octets if1 t) out) back)
-    ∙ joined if1 y 3 (octets if1 t - 3) (o ∷ p ∷ c ∷ []) (drop (octets if1 t) out) v.type_known v.core_length (omega (arith, z.in_if1)) front
-  where
-    indication_low : (b : Bool) → leb x.type 8 ≡ b → cond (leb x.type 8) x.type 0 ≤ 8
-    indication_low true e = rw e (leb-true _ _ e)
-    indication_low false e = rw e (omega arith)
-
-pub three-set : (d : List ℕ) (o p c : ℕ) → 3 ≤ length d → set (set (set d 0 o) 1 p) 2 c ≡ o ∷ p ∷ c ∷ drop 3 d
-three-set [] o p c h = absurd (omega arith)
-three-set (x ∷ []) o p c h = absurd (omega arith)
-three-set (x ∷ y ∷ []) o p c h = absurd (omega arith)
-three-set (x ∷ y ∷ z ∷ d) o p c h = refl
+carry_if1 f src out x d c h ed =
+    let z = sizes x.type h in
+    let m : octets if1 x.type - 3 ≡ octets_for (length x.core) = omega (arith, z.in_if1) ∙ ap octets_for (sym c.begins.valid.core_length) in
+    (omega (arith, length-take 3 out, c.room, z.in_if1), ed ∙ ap (λ n. take 3 out ++ (packs n x.core ++ drop (octets if1 x.type) out)) m)
 
 pub indication_small : (t : ℕ) → t ≤ 9 → cond (leb t 8) t 0 ≤ 8
 indication_small t h = go (leb t 8) refl
@@ -274,22 +221,27 @@ module _ (f : Format) (r : ℕ) (src out d : List ℕ) (x : Frame) (t q o : ℕ)
       → set d 0 (o + y / 2 ^ 5) ≡ layout g (carried g f r x) ++ drop (octets g x.type) out)
       (sym eg) (λ c e m. carry_if2 f r src out x o i y d os c (omega arith) lo (first-there if2 e) ei ey (moved-there if2 c m)) c e m
 
-  pub done_if1 : (g : Format) (w : List ℕ) → g ≡ if1 → Carriable f g src x out → t ≤ 9 → r ≤ 8 → digits 8 o ≡ first_bits g t q → CoreMoved f g t src out d
-      → w ≡ o ∷ (cond (leb t 8) t 0 * 16 + r) ∷ num 8 (crc (take (class_a t) (bits (drop 3 d)))) ∷ drop 3 d
+  -- what the three octets are put in front of, and by what
+  pub done_if1 : (g : Format) (i : ℕ) (w : List ℕ) → g ≡ if1 → Carriable f g src x out → t ≤ 9 → i ≡ cond (leb t 8) t 0 → CoreMoved f g t src out d
+      → ((front rest : List ℕ) (core : List Bool) → length front ≡ 3 → length core ≡ core_bits t → d ≡ front ++ (pack core ++ rest)
+      → w ≡ layout if1 (frame_by t q i r core) ++ rest)
       → w ≡ layout g (carried g f r x) ++ drop (octets g x.type) out
-  done_if1 g w eg c h hr e m ew =
-      subst (λ g. Carriable f g src x out → digits 8 o ≡ first_bits g t q → CoreMoved f g t src out d → w ≡ layout g (carried g f r x) ++ drop (octets g x.type) out) (sym eg)
-      (λ c e m.
-      ew
-      ∙ carry_if1 f r src out x o (cond (leb t 8) t 0 * 16 + r) (num 8 (crc (take (class_a t) (bits (drop 3 d))))) d c (omega arith) hr lo (first-there if1 e)
-      (ap (λ t. cond (leb t 8) t 0 * 16 + r) et) (ap (λ t. num 8 (crc (take (class_a t) (bits (drop 3 d))))) et) (moved-there if1 c m)
-      ∙ ap (λ y. layout if1 y ++ drop (octets if1 x.type) out) (sym (carried_if1 f r x c.others))) c e m
+  done_if1 g i w eg c h ei m put =
+      subst (λ g. Carriable f g src x out → CoreMoved f g t src out d → w ≡ layout g (carried g f r x) ++ drop (octets g x.type) out) (sym eg)
+      (λ c m.
+      let a = carry_if1 f src out x d c (omega arith) (moved-there if1 c m) in
+      let z : cond (leb x.type 9) r 0 ≡ r = ap (λ b. cond b r 0) (le-leb x.type 9 (omega arith)) in
+      let y : frame_by t q i r x.core ≡ with_modes r x =
+      ap₂ (λ t q. frame_by t q i r x.core) et eq
+      ∙ ap₂ (λ i r. frame_by x.type x.quality i r x.core) (ei ∙ ap (λ t. cond (leb t 8) t 0) et) (sym z) in
+      put (take 3 out) (drop (octets if1 x.type) out) x.core a.0 (c.begins.valid.core_length ∙ ap core_bits (sym et)) a.1
+      ∙ ap (λ y. layout if1 y ++ drop (octets if1 x.type) out) (y ∙ sym (carried_if1 f r x c.others))) c m
 
 -- the room behind the movers
-pub if1_room : (f g : Format) (src out : List ℕ) (x : Frame) (t : ℕ) → g ≡ if1 → Carriable f g src x out → t ≡ x.type → t ≤ 9 → 3 + core_octets t ≤ length out
-if1_room f g src out x t eg c et h =
+pub if1_room : (f g : Format) (src out : List ℕ) (x : Frame) (t : ℕ) → g ≡ if1 → Carriable f g src x out → t ≡ x.type → octets if1 t ≤ length out
+if1_room f g src out x t eg c et =
     let e : octets g x.type ≡ octets if1 t = ap₂ octets eg (sym et) in
-    omega (arith, c.room, (sizes t h).in_if1)
+    omega (arith, c.room)
 
 pub first_small : (t q o : ℕ) (g : Format) → o < 256 → digits 8 o ≡ first_bits g t q → g ≡ if2 → o ≤ 248
 unfolding digits

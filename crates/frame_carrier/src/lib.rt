@@ -23,9 +23,10 @@ pub fn carry_frame(c: Conversion, src: &[u8], out: &mut [u8])
 {
     let t = type_in(c.from, src);
     let q = quality_in(c.from, src);
+    let first = first_octet(c.to, t, q);
     // Types 14 and 15 have no core.
     if SID < u64::from(t) {
-        out[0] = first_octet(c.to, t, q);
+        out[0] = first;
         return;
     }
     move_core(c.from, c.to, t as usize, src, out);
@@ -40,10 +41,10 @@ pub fn carry_frame(c: Conversion, src: &[u8], out: &mut [u8])
             put_modes(h, out);
         }
         Format::If2 => {
-            out[0] = first_octet(Format::If2, t, q) + (src[core_at(c.from)] >> 5);
+            out[0] = first + (src[core_at(c.from)] >> 5);
         }
         Format::Storage => {
-            out[0] = first_octet(Format::Storage, t, q);
+            out[0] = first;
         }
     }
 }

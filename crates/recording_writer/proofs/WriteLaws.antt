@@ -9,7 +9,7 @@ use native.Mathlib.Omega.{arith}
 use lib.ListN.{length, take, drop, length-append, length-take, length-drop, take-append-drop, drop_of_length-le}
 use lib.Seq.{take_at, drop_at, drop-drop, take_all}
 use Rattle.bits.specs.Bits.{bits, Octets}
-use Rattle.definitions.specs.Frames.{Format, Frame, octets, layout, type_in, frame_in}
+use Rattle.definitions.specs.Frames.{Format, if1, if2, storage, Frame, octets, layout, type_in, frame_in}
 use Rattle.definitions.specs.Reading.{read_frame, overwritten}
 use Rattle.definitions.specs.Claims.{Valid}
 use Rattle.definitions.proofs.Tables.{sized}
@@ -43,6 +43,15 @@ pub record Written (f g : Format) (r : ℕ) (s d₀ d : List ℕ) (at to : ℕ) 
 pub header-room : (f g : Format) (r : ℕ) (xs : List Frame) (d : List ℕ) → length (converted f g r xs) ≤ length d → length (file_header g) ≤ length d
 unfolding write_recording
 header-room f g r xs d h = omega (arith, length-append (file_header g) (coming f g r xs))
+
+-- the file header is the first n octets of storage format's, and they are copied
+pub header_put : (g : Format) (n : ℕ) (h d : List ℕ) → n ≡ length (file_header g) → h ≡ take n (file_header storage) → h ++ drop n d ≡ overwritten (file_header g) d
+header_put g n h d en eh = ap₂ (λ h n. h ++ drop n d) (eh ∙ ap (λ n. take n (file_header storage)) en ∙ front g) en
+  where
+    front : (g : Format) → take (length (file_header g)) (file_header storage) ≡ file_header g
+    front if1 = refl
+    front if2 = refl
+    front storage = refl
 
 -- the file header leaves the buffer as long as it was
 pub header_long : (f g : Format) (r : ℕ) (xs : List Frame) (d₀ d : List ℕ) → length (converted f g r xs) ≤ length d₀ → d ≡ overwritten (file_header g) d₀

@@ -2,104 +2,102 @@
 use borrow.Author.Rules.{rules}
 use mathlib.Core.Path.{refl, sym, ap, ◌∙◌}
 use native.Mathlib.Omega.{arith}
+use borrow.Author.Tests.{le-leb}
 use Rattle.definitions.specs.Frames.{octets}
 use Rattle.frame.specs.Answers.{format_of}
-use Rattle.frame_carrier.proofs.FrontLaws.{front_fields, space, if1_room, core_in_lem, first_small, done_none, done_if1, done_if2, done_storage}
+use Rattle.frame_carrier.proofs.FrontLaws.{front_fields, space, if1_room, core_in_lem, first_small, indication_small, done_none, done_if1, done_if2, done_storage}
 use Rattle.frame_carrier.proofs.carry_frame.Goals as goal
 
 pub type_in-t-requires : goal.type_in-t-requires
-type_in-t-requires c =
-    (space (format_of c.args.f) (format_of c.args.g) c.args.src.now c.args.out.now c.requires.1.0 c.requires.1.1).0
+type_in-t-requires c = (space (format_of c.args.c.from) (format_of c.args.c.to) c.args.src.now c.args.out.now c.requires.0 c.requires.1).0
 
-pub quality_in-requires : goal.quality_in-requires
-quality_in-requires c =
-    (space (format_of c.args.f) (format_of c.args.g) c.args.src.now c.args.out.now c.requires.1.0 c.requires.1.1).0
+pub quality_in-q-requires : goal.quality_in-q-requires
+quality_in-q-requires c = (space (format_of c.args.c.from) (format_of c.args.c.to) c.args.src.now c.args.out.now c.requires.0 c.requires.1).0
 
 pub first_octet-first-requires : goal.first_octet-first-requires
 first_octet-first-requires c =
-    let p = c.requires.1 in let s = space (format_of c.args.f) (format_of c.args.g) c.args.src.now c.args.out.now c.requires.1.0 c.requires.1.1 in
-    let a = c.args in
-    let ff = front_fields (format_of a.f) a.src.now p.0 (octets (format_of a.f) p.0.type) p.1.begins in
-    (omega (arith, c.type_in-t.ensures, ff.0, s.2), omega (arith, c.quality_in.ensures, ff.1, s.3))
+    let f = format_of c.args.c.from in
+    let s = space f (format_of c.args.c.to) c.args.src.now c.args.out.now c.requires.0 c.requires.1 in
+    let ff = front_fields f c.args.src.now c.requires.0 (octets f c.requires.0.type) c.requires.1.begins in
+    (omega (arith, c.type_in-t.ensures, ff.0, s.2), omega (arith, c.quality_in-q.ensures, ff.1, s.3))
 
 pub bounds-out-0 : goal.bounds-out-0
-bounds-out-0 c =
-    (space (format_of c.args.f) (format_of c.args.g) c.args.src.now c.args.out.now c.requires.1.0 c.requires.1.1).1
+bounds-out-0 c = (space (format_of c.args.c.from) (format_of c.args.c.to) c.args.src.now c.args.out.now c.requires.0 c.requires.1).1
 
-pub returns-then-t-gt-LAST_CORE : goal.returns-then-t-gt-LAST_CORE
-returns-then-t-gt-LAST_CORE c =
+pub returns-then-from-gt-SID : goal.returns-then-from-gt-SID
+returns-then-from-gt-SID c =
     λ x p.
     let a = c.args in
-    let ty = c.type_in-t in
-    let qu = c.quality_in in
-    let fo = c.first_octet-first in
-    let ff = front_fields (format_of a.f) a.src.now x (octets (format_of a.f) x.type) p.begins in
-    done_none (format_of a.f) a.r a.src.now a.out.now a.out.now x ty.result qu.result fo.result (ty.ensures ∙ ff.0) (qu.ensures ∙ ff.1) (search rules) (format_of a.g) p c.if-t-gt-LAST_CORE.true fo.ensures
+    let f = format_of a.c.from in
+    let ff = front_fields f a.src.now x (octets f x.type) p.begins in
+    done_none f a.c.request a.src.now a.out.now a.out.now x _ _ _ (c.type_in-t.ensures ∙ ff.0) (c.quality_in-q.ensures ∙ ff.1) (search rules) (format_of a.c.to) p
+    (omega arith) c.first_octet-first.ensures
 
 pub move_core-requires : goal.move_core-requires
 move_core-requires c =
-    let a = c.args in
-    let q = c.requires.1 in
-    let ff = front_fields (format_of a.f) a.src.now q.0 (octets (format_of a.f) q.0.type) q.1.begins in
-    let et = c.type_in-t.ensures ∙ ff.0 in
-    (c.if-t-gt-LAST_CORE.false, (q.0, sym et, q.1))
+    let f = format_of c.args.c.from in
+    let ff = front_fields f c.args.src.now c.requires.0 (octets f c.requires.0.type) c.requires.1.begins in
+    (omega arith, (c.requires.0, sym (c.type_in-t.ensures ∙ ff.0), c.requires.1))
 
 pub put_modes-requires : goal.put_modes-requires
 put_modes-requires c =
     let a = c.args in
-    let q = c.requires.1 in
-    let ff = front_fields (format_of a.f) a.src.now q.0 (octets (format_of a.f) q.0.type) q.1.begins in
-    let et = c.type_in-t.ensures ∙ ff.0 in
-    (c.if-t-gt-LAST_CORE.false, c.requires.0, omega (arith, if1_room (format_of a.f) (format_of a.g) a.src.now a.out.now q.0 _ (ap format_of c.in-If1.is) q.1 et c.if-t-gt-LAST_CORE.false, c.move_core.auto.out))
+    let f = format_of a.c.from in
+    let s = space f (format_of a.c.to) a.src.now a.out.now c.requires.0 c.requires.1 in
+    let ff = front_fields f a.src.now c.requires.0 (octets f c.requires.0.type) c.requires.1.begins in
+    let et = c.type_in-t.ensures ∙ ff.0 in (
+      le-leb c.type_in-t.result 9 (omega arith),
+      omega (arith, c.quality_in-q.ensures, ff.1, s.3),
+      omega (arith, c.indication_of.ensures, indication_small c.type_in-t.result (omega arith)),
+      omega (arith, a.c.mode),
+      omega (arith, if1_room f (format_of a.c.to) a.src.now a.out.now c.requires.0 _ (ap format_of c.in-If1.is) c.requires.1 et, c.move_core.auto.out),
+    )
 
-pub bounds-src-i : goal.bounds-src-i
-bounds-src-i c =
+pub bounds-src-core_at : goal.bounds-src-core_at
+bounds-src-core_at c =
     let a = c.args in
-    let q = c.requires.1 in
-    let ff = front_fields (format_of a.f) a.src.now q.0 (octets (format_of a.f) q.0.type) q.1.begins in
-    let et = c.type_in-t.ensures ∙ ff.0 in
-    core_in_lem (format_of a.f) (format_of a.g) a.src.now a.out.now q.0 _ _ (ap format_of c.in-If2.is) q.1 et c.if-t-gt-LAST_CORE.false c.core_at-i.ensures.0
+    let f = format_of a.c.from in
+    let ff = front_fields f a.src.now c.requires.0 (octets f c.requires.0.type) c.requires.1.begins in
+    core_in_lem f (format_of a.c.to) a.src.now a.out.now c.requires.0 _ _ (ap format_of c.in-If2.is) c.requires.1 (c.type_in-t.ensures ∙ ff.0) (omega arith) c.core_at.ensures.0
 
 pub overflow_add-out : goal.overflow_add-out
 overflow_add-out c =
-    let a = c.args in
     let fo = c.first_octet-first in
-    omega (arith, first_small _ _ fo.result (format_of a.g) (search rules) fo.ensures (ap format_of c.in-If2.is), (c.type_inv.src c.core_at-i.result).fits)
+    omega (arith, first_small _ _ fo.result (format_of c.args.c.to) (search rules) fo.ensures (ap format_of c.in-If2.is), (c.type_inv.src c.core_at.result).fits)
 
 pub bounds-out-0-in-If2 : goal.bounds-out-0-in-If2
 bounds-out-0-in-If2 c =
-    omega (arith, (space (format_of c.args.f) (format_of c.args.g) c.args.src.now c.args.out.now c.requires.1.0 c.requires.1.1).1, c.move_core.auto.out)
+    omega (arith, (space (format_of c.args.c.from) (format_of c.args.c.to) c.args.src.now c.args.out.now c.requires.0 c.requires.1).1, c.move_core.auto.out)
 
 pub bounds-out-0-in-Storage : goal.bounds-out-0-in-Storage
 bounds-out-0-in-Storage c =
-    omega (arith, (space (format_of c.args.f) (format_of c.args.g) c.args.src.now c.args.out.now c.requires.1.0 c.requires.1.1).1, c.move_core.auto.out)
+    omega (arith, (space (format_of c.args.c.from) (format_of c.args.c.to) c.args.src.now c.args.out.now c.requires.0 c.requires.1).1, c.move_core.auto.out)
 
 pub returns-in-If1 : goal.returns-in-If1
 returns-in-If1 c =
     λ x p.
     let a = c.args in
-    let ty = c.type_in-t in
-    let qu = c.quality_in in
-    let fo = c.first_octet-first in
-    let ff = front_fields (format_of a.f) a.src.now x (octets (format_of a.f) x.type) p.begins in
-    done_if1 (format_of a.f) a.r a.src.now a.out.now c.move_core.new.out x ty.result qu.result fo.result (ty.ensures ∙ ff.0) (qu.ensures ∙ ff.1) (search rules) (format_of a.g) _ (ap format_of c.in-If1.is) p c.if-t-gt-LAST_CORE.false c.requires.0 fo.ensures c.move_core.ensures c.put_modes.ensures
+    let f = format_of a.c.from in
+    let ff = front_fields f a.src.now x (octets f x.type) p.begins in
+    done_if1 f a.c.request a.src.now a.out.now c.move_core.new.out x _ c.quality_in-q.result c.first_octet-first.result (c.type_in-t.ensures ∙ ff.0) (c.quality_in-q.ensures ∙ ff.1)
+    (search rules) (format_of a.c.to) c.indication_of.result _ (ap format_of c.in-If1.is) p (omega arith) c.indication_of.ensures c.move_core.ensures c.put_modes.ensures
 
 pub returns-in-If2 : goal.returns-in-If2
 returns-in-If2 c =
     λ x p.
     let a = c.args in
-    let ty = c.type_in-t in
-    let qu = c.quality_in in
+    let f = format_of a.c.from in
     let fo = c.first_octet-first in
-    let ff = front_fields (format_of a.f) a.src.now x (octets (format_of a.f) x.type) p.begins in
-    done_if2 (format_of a.f) a.r a.src.now a.out.now c.move_core.new.out x ty.result qu.result fo.result (ty.ensures ∙ ff.0) (qu.ensures ∙ ff.1) (search rules) (format_of a.g) c.core_at-i.result _ (λ k. search rules) (ap format_of c.in-If2.is) p c.if-t-gt-LAST_CORE.false fo.ensures c.core_at-i.ensures.0 refl c.move_core.ensures
+    let ff = front_fields f a.src.now x (octets f x.type) p.begins in
+    done_if2 f a.c.request a.src.now a.out.now c.move_core.new.out x _ _ fo.result (c.type_in-t.ensures ∙ ff.0) (c.quality_in-q.ensures ∙ ff.1) (search rules)
+    (format_of a.c.to) c.core_at.result _ (λ k. search rules) (ap format_of c.in-If2.is) p (omega arith) fo.ensures c.core_at.ensures.0 refl c.move_core.ensures
 
 pub returns-in-Storage : goal.returns-in-Storage
 returns-in-Storage c =
     λ x p.
     let a = c.args in
-    let ty = c.type_in-t in
-    let qu = c.quality_in in
+    let f = format_of a.c.from in
     let fo = c.first_octet-first in
-    let ff = front_fields (format_of a.f) a.src.now x (octets (format_of a.f) x.type) p.begins in
-    done_storage (format_of a.f) a.r a.src.now a.out.now c.move_core.new.out x ty.result qu.result fo.result (ty.ensures ∙ ff.0) (qu.ensures ∙ ff.1) (search rules) (format_of a.g) (ap format_of c.in-Storage.is) p c.if-t-gt-LAST_CORE.false fo.ensures c.move_core.ensures
+    let ff = front_fields f a.src.now x (octets f x.type) p.begins in
+    done_storage f a.c.request a.src.now a.out.now c.move_core.new.out x _ _ fo.result (c.type_in-t.ensures ∙ ff.0) (c.quality_in-q.ensures ∙ ff.1) (search rules)
+    (format_of a.c.to) (ap format_of c.in-Storage.is) p (omega arith) fo.ensures c.move_core.ensures

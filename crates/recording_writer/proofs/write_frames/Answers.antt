@@ -4,14 +4,14 @@ use mathlib.Core.Bool.{true}
 use mathlib.Core.List.{List}
 use Prim.Native.Nat.{ℕ, ◌+◌, ◌-◌, ◌<◌, ◌≤◌}
 use native.Mathlib.Omega.{arith}
-use lib.ListN.{length, take, drop, length-drop}
+use lib.ListN.{length, take, drop, length-take, length-drop}
 use lib.Seq.{length-take-le}
 use Rattle.bits.specs.Bits.{bits}
-use Rattle.definitions.specs.Frames.{Format, known, octets, type_in}
+use Rattle.definitions.specs.Frames.{Format, storage, known, octets, type_in}
 use Rattle.definitions.proofs.Tables.{sized}
 use Rattle.frame.specs.Answers.{format_of}
-use Rattle.recordings.specs.Recordings.{limit}
-use Rattle.recording_writer.proofs.WriteLaws.{header-room, header_long, Written, written_start, written-end, at_front, front_octets, front_room, part_type, part_carriable, part_written}
+use Rattle.recordings.specs.Recordings.{limit, file_header}
+use Rattle.recording_writer.proofs.WriteLaws.{header-room, header_put, header_long, Written, written_start, written-end, at_front, front_octets, front_room, part_type, part_carriable, part_written}
 use Rattle.recording_writer.proofs.write_frames.Goals as goal
 
 -- the frame at hand: its type, and the places behind it
@@ -33,13 +33,31 @@ module _ {f g : Format} {r : ℕ} {s d₀ d : List ℕ} {at to : ℕ} (w : Writt
       let q : m ≡ octets g (at_front w l).x.type = em ∙ ap (octets g) type_is in
       omega (arith, (front_room w l).1)
 
-pub put_file_header-to-requires : goal.put_file_header-to-requires
-put_file_header-to-requires c =
-    let p = c.requires.2 in header-room (format_of c.args.f) (format_of c.args.g) c.args.r p.0 c.args.out.now p.1.room
+pub slice_bounds-copy_from_slice-end : goal.slice_bounds-copy_from_slice-end
+slice_bounds-copy_from_slice-end c =
+    let a = c.args in
+    let p = c.requires.1 in
+    omega (arith, c.header_octets-to.ensures.0, header-room (format_of a.c.from) (format_of a.c.to) a.c.request p.0 a.out.now p.1.room)
+
+pub slice_bounds-copy_from_slice-end-2 : goal.slice_bounds-copy_from_slice-end-2
+slice_bounds-copy_from_slice-end-2 c =
+    let a = c.args in
+    let p = c.requires.1 in
+    omega (arith, c.header_octets-to.ensures.0, header-room (format_of a.c.from) (format_of a.c.to) a.c.request p.0 a.out.now p.1.room, length-take c.header_octets-to.result a.out.now)
+
+pub copy_from_slice-requires : goal.copy_from_slice-requires
+copy_from_slice-requires c =
+    let a = c.args in
+    let p = c.requires.1 in
+    omega (arith, c.header_octets-to.ensures, header-room (format_of a.c.from) (format_of a.c.to) a.c.request p.0 a.out.now p.1.room, length-take c.header_octets-to.result a.out.now, length-take c.header_octets-to.result (file_header storage))
 
 pub loop-at-init : goal.loop-at-init
 loop-at-init c =
-    let a = c.args in let p = c.requires.2 in written_start (format_of a.f) (format_of a.g) a.r a.s.now a.out.now _ p.0 _ _ (λ i. (c.type_inv.s i).fits) p.1.read p.1.within p.1.room c.header_octets-at.ensures.0 c.put_file_header-to.ensures.0 c.put_file_header-to.ensures.1
+    let a = c.args in
+    let p = c.requires.1 in
+    written_start (format_of a.c.from) (format_of a.c.to) a.c.request a.s.now a.out.now _ p.0 _ _ (λ i. (c.type_inv.s i).fits) p.1.read p.1.within p.1.room
+    c.header_octets-at.ensures.0 c.header_octets-to.ensures.0
+    (header_put (format_of a.c.to) _ _ a.out.now c.header_octets-to.ensures.0 c.copy_from_slice.ensures.after)
 
 pub type_in-t-requires : goal.type_in-t-requires
 type_in-t-requires c =
@@ -57,7 +75,7 @@ slice_bounds-carry_frame-start c =
 pub carry_frame-requires : goal.carry_frame-requires
 carry_frame-requires c =
     let w = c.loop-at.invariant in
-    (c.requires.1, ((at_front w c.loop-at-test.true).x, part_carriable w c.loop-at-test.true c.requires.0))
+    ((at_front w c.loop-at-test.true).x, part_carriable w c.loop-at-test.true c.requires.0)
 
 pub octets_by_bits-at-requires : goal.octets_by_bits-at-requires
 octets_by_bits-at-requires c =
@@ -90,12 +108,12 @@ loop-at-preserved c =
 pub shape_of-out : goal.shape_of-out
 shape_of-out c =
     let a = c.args in
-    let p = c.requires.2 in
-    c.loop-at.invariant.as_long ∙ header_long (format_of a.f) (format_of a.g) a.r p.0 a.out.now _ p.1.room c.put_file_header-to.ensures.1
+    let p = c.requires.1 in
+    c.loop-at.invariant.as_long ∙ header_long (format_of a.c.from) (format_of a.c.to) a.c.request p.0 a.out.now _ p.1.room (header_put (format_of a.c.to) _ _ a.out.now c.header_octets-to.ensures.0 c.copy_from_slice.ensures.after)
 
 pub returns : goal.returns
 returns c =
     λ xs p.
     let a = c.args in
-    written-end (format_of a.f) (format_of a.g) a.r a.s.now a.out.now _ c.loop-at.out c.loop-at.at c.loop-at.to xs (omega arith) c.loop-at.invariant
-    c.put_file_header-to.ensures.1 p.read
+    written-end (format_of a.c.from) (format_of a.c.to) a.c.request a.s.now a.out.now _ c.loop-at.out c.loop-at.at c.loop-at.to xs (omega arith) c.loop-at.invariant
+    (header_put (format_of a.c.to) _ _ a.out.now c.header_octets-to.ensures.0 c.copy_from_slice.ensures.after) p.read
