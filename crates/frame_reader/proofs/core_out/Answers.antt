@@ -1,8 +1,8 @@
 -- `frame_reader::core_out` meets its contract: the core is the run of K bits behind the header. Assumes nothing.
-use mathlib.Core.Path.{sym, ap₂, ◌∙◌}
-use Prim.Native.Nat.{◌+◌}
+use mathlib.Core.Path.{◌≡◌, sym, ap₂, ◌∙◌, subst}
+use Prim.Native.Nat.{◌+◌, ◌/◌, ◌≤◌}
 use native.Mathlib.Omega.{arith}
-use lib.ListN.{take, drop, length-drop}
+use lib.ListN.{length, take, drop, length-drop}
 use lib.Seq.{length-take-le}
 use mathlib.Core.List.{◌++◌}
 use Rattle.bits.specs.Bits.{bits, pack, octets_for}
@@ -32,6 +32,7 @@ returns c =
     let hb = c.header_bits in
     let p = room f t c.requires.0 in
     let lc = length-take-le (core_bits t) (drop (header_bits f t) bs) (omega (arith, length-drop (header_bits f t) bs, length-bits a.s.now)) in
-    core-written a.h (core_in f t bs) a.core.now k.result k.ensures.0 c.put_run.new.dst c.if-core-m.false
+    let em : c.div_ceil-m.result ≡ (k.result + 7) / 8 = omega (arith, c.div_ceil-m.ensures) in
+    rw em (core-written a.h (core_in f t bs) a.core.now k.result k.ensures.0 c.put_run.new.dst (subst (λ m. m ≤ length a.core.now) em c.if-core-m.false)
     (lc ∙ sym k.ensures.0)
-    (c.put_run.ensures ∙ ap₂ (λ n m. pack (take n (drop m bs)) ++ drop (octets_for (0 + k.result)) a.core.now) k.ensures.0 hb.ensures.0)
+    (c.put_run.ensures ∙ ap₂ (λ n m. pack (take n (drop m bs)) ++ drop (octets_for (0 + k.result)) a.core.now) k.ensures.0 hb.ensures.0))
