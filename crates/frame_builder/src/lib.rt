@@ -44,7 +44,7 @@ fn judge(f: Format, t: u64, q: u64, i: u64, r: u64, core: &[u8], room: usize) ->
         return Err(Refusal::ReservedType);
     }
     let k = core_bits(t as usize);
-    if core.len() != (k + 7) / 8 {
+    if core.len() != k.div_ceil(8) {
         return Err(Refusal::ArgumentRange);
     }
     if !core_fill_clear(core, k) {
