@@ -73,8 +73,7 @@ overflow_cast-h c =
 pub write_modes-requires : goal.write_modes-requires
 write_modes-requires c =
     let a = c.args in
-    let at = goal.at.write_modes-requires c in
-    (
+    let at = goal.at.write_modes-requires c in (
       writable a.request a.fqc c.requires _ _ _ a.out.now _ c.quality_of.ensures.1 c.indication_of-i.ensures (passed at.After-core_fields_good c.if-not-core_fields_good.false) c.join.auto.core (counted-there at.After-core_octets-m) c.if-out-n.false,
       le-leb a.c.frame_type 9 c.requires.type,
     )
