@@ -2,10 +2,11 @@
 use mathlib.Core.Path.{◌≡◌, refl, sym, ap, ap₂, subst, ◌∙◌}
 use mathlib.Core.Bool.{Bool, true, false}
 use mathlib.Core.List.{List, [], ◌∷◌, ◌++◌}
-use Prim.Native.Nat.{ℕ, zero, suc, ◌+◌, ◌*◌, ◌≤◌}
+use Prim.Native.Nat.{ℕ, zero, suc, ◌+◌, ◌-◌, ◌*◌, ◌≤◌}
 use native.Mathlib.Omega.{arith}
 use Rattle.std.proofs.Common.{Result, Ok, Err}
 use lib.ListN.{length, take, drop, length-drop}
+use Rattle.std.proofs.lemmas.List.{drop-take}
 use lib.Seq.{take-take, length-take-le}
 use borrow.Author.Tests.{le-leb, lt-leb, eqb-true}
 use Rattle.bits.specs.Bits.{bits, pack, octets_for}
@@ -29,20 +30,11 @@ use Rattle.downlink.specs.Answers.{shown, flow_after, next_link, SplitInto}
 
 -- ---- the promise
 
-pub refused_into : (o : Outcome Down) (a b c : List ℕ) (e : Refusal) → o ≡ refused (number_of e) → SplitInto o a a b b c c (Err e)
-refused_into o a b c r e = record {
-  answer = sym (ap shown e);
-  buffer1 = sym (ap (λ o. flow_after (λ y. y.flow1) o a) e);
-  buffer2 = sym (ap (λ o. flow_after (λ y. y.flow2) o b) e);
-  buffer3 = sym (ap (λ o. flow_after (λ y. y.flow3) o c) e);
-}
-
 -- a part of a front
 pub take-drop_front : {A : Type 0} (m n k : ℕ) (l : List A) → m + n ≤ k → take n (drop m (take k l)) ≡ take n (drop m l)
-take-drop_front zero n k l h = take-take n k l (omega arith)
-take-drop_front (suc m) n zero l h = absurd (omega arith)
-take-drop_front (suc m) n (suc k) [] h = refl
-take-drop_front (suc m) n (suc k) (x ∷ l) h = take-drop_front m n k l (omega arith)
+take-drop_front m n k l h =
+    let e : k ≡ m + (k - m) = omega arith in
+    ap (take n) (ap (λ j. drop m (take j l)) e ∙ drop-take m (k - m) l) ∙ take-take n (k - m) (drop m l) (omega arith)
 
 -- of a frame with the combination that was found for its type
 module _ (l : Link) (h : FrameHeader) (s : List ℕ) (c : Combination) (m₁ m₂ m₃ : ℕ)
@@ -66,9 +58,6 @@ module _ (l : Link) (h : FrameHeader) (s : List ℕ) (c : Combination) (m₁ m�
       length-take-le (core_bits t) (drop (header_bits if1 t) (bits s))
       (omega (arith, length-drop (header_bits if1 t) (bits s), length-bits s, (room if1 t bits-whole.0).0))
       ∙ sym bits-whole.1
-
-  pub frame_short : roomy c m₁ m₂ m₃ ≡ false → down_frame l (frame_with h (core_in if1 h.frame_type (bits s))) m₁ m₂ m₃ ≡ refused 10
-  frame_short w = rw (← found, w)
 
   frame-split : roomy c m₁ m₂ m₃ ≡ true
       → down_frame l (frame_with h (core_in if1 h.frame_type (bits s))) m₁ m₂ m₃ ≡ ok (split l c (frame_with h (core_in if1 h.frame_type (bits s))))
@@ -97,29 +86,6 @@ module _ (l : Link) (h : FrameHeader) (s : List ℕ) (c : Combination) (m₁ m�
         buffer2 = laid c.size1 c.size2 from b₀ b e (omega arith) put.flow2 ∙ sym (ap (λ o. flow_after (λ y. y.flow2) o b₀) o);
         buffer3 = laid (c.size1 + c.size2) c.size3 from c₀ d e (omega arith) put.flow3 ∙ sym (ap (λ o. flow_after (λ y. y.flow3) o c₀) o);
       }
-
--- no combination has the type
-pub frame_missing : (l : Link) (x : Frame) (m₁ m₂ m₃ : ℕ) → refused 16 ≡ lookup by_type x.type (combinations l.set) → down_frame l x m₁ m₂ m₃ ≡ refused 16
-frame_missing l x m₁ m₂ m₃ e = rw (← e)
-
--- ---- the call
-
-module _ (l : Link) (s : List ℕ) (m₁ m₂ m₃ : ℕ) where
-  pub no_set : l.set.count ≡ 0 → down_call l s m₁ m₂ m₃ ≡ refused 14
-  unfolding down_call
-  no_set z = rw (lt-leb 1 l.set.count (omega arith))
-
-  module _ (some : l.set.count ≡ 0 → ⊥) where
-    pub frame_refused : (n : ℕ) → refused n ≡ read_with true if1 s → down_call l s m₁ m₂ m₃ ≡ refused n
-    unfolding down_call
-    frame_refused n e = rw (le-leb 1 l.set.count (omega arith), ← e)
-
-    pub frame-read : (x : Frame) (n : ℕ) → ok (x, n) ≡ read_with true if1 s → down_frame l x m₁ m₂ m₃ ≡ down_call l s m₁ m₂ m₃
-    unfolding down_call
-    frame-read x n e = rw (le-leb 1 l.set.count (omega arith), ← e)
-
-pub into_same : (o p : Outcome Down) (a₀ a b₀ b c₀ c : List ℕ) (r : Result Subflows Refusal) → o ≡ p → SplitInto o a₀ a b₀ b c₀ c r → SplitInto p a₀ a b₀ b c₀ c r
-into_same o p a₀ a b₀ b c₀ c r e h = subst (λ o. SplitInto o a₀ a b₀ b c₀ c r) e h
 
 -- ---- the state after it
 

@@ -29,23 +29,21 @@ use Rattle.uplink_judge.specs.declared.Judged.TheVariants.{Core, Empty}
 
 -- ---- sub-flows
 
-module _ (n : ℕ) (s : List ℕ) where
-  there : subflow_good n s ≡ true → n ≤ 8 * length s
-  there h = omega (arith, eqb-true (length s) (octets_for n) (and_left _ _ h))
+there : (n : ℕ) (s : List ℕ) → subflow_good n s ≡ true → n ≤ 8 * length s
+there n s h = omega (arith, eqb-true (length s) (octets_for n) (and_left _ _ h))
 
-module _ (c : Combination) (s₁ s₂ s₃ : List ℕ) where
-  module _ (good : subflows_good c s₁ s₂ s₃ ≡ true) where
-    rest : (subflow_good c.size2 s₂ && subflow_good c.size3 s₃) ≡ true
-    rest = and_right (subflow_good c.size1 s₁) _ good
+module _ (c : Combination) (s₁ s₂ s₃ : List ℕ) (good : subflows_good c s₁ s₂ s₃ ≡ true) where
+  rest : (subflow_good c.size2 s₂ && subflow_good c.size3 s₃) ≡ true
+  rest = and_right (subflow_good c.size1 s₁) _ good
 
-    pub there₁ : c.size1 ≤ 8 * length s₁
-    there₁ = there c.size1 s₁ (and_left _ _ good)
+  pub there₁ : c.size1 ≤ 8 * length s₁
+  there₁ = there c.size1 s₁ (and_left _ _ good)
 
-    pub there₂ : c.size2 ≤ 8 * length s₂
-    there₂ = there c.size2 s₂ (and_left _ _ rest)
+  pub there₂ : c.size2 ≤ 8 * length s₂
+  there₂ = there c.size2 s₂ (and_left _ _ rest)
 
-    pub there₃ : c.size3 ≤ 8 * length s₃
-    there₃ = there c.size3 s₃ (and_right (subflow_good c.size2 s₂) _ rest)
+  pub there₃ : c.size3 ≤ 8 * length s₃
+  there₃ = there c.size3 s₃ (and_right (subflow_good c.size2 s₂) _ rest)
 
 pub length-joined : (c : Combination) (s₁ s₂ s₃ : List ℕ) → subflows_good c s₁ s₂ s₃ ≡ true → length (joined c s₁ s₂ s₃) ≡ c.size1 + c.size2 + c.size3
 length-joined c s₁ s₂ s₃ g =
@@ -124,7 +122,7 @@ module _ (l : Link) (fqc rfci : ℕ) (s₁ s₂ s₃ : List ℕ) where
     pub judges_bad : fqc ≡ 1 → Judges l fqc rfci s₁ s₂ s₃ (Ok (Empty 0))
     judges_bad e = record {
       call = λ room. sym (up-picked l fqc rfci s₁ s₂ s₃ room ∙ rw (← h, eq-eqb fqc 1 e));
-      core = λ c z. absurd (cc);
+      core = λ c z. absurd cc;
       quality = λ q z. let y : 0 ≡ q = cc in omega arith;
     }
 
@@ -132,8 +130,8 @@ module _ (l : Link) (fqc rfci : ℕ) (s₁ s₂ s₃ : List ℕ) where
       pub judges-subflows : subflows_good c s₁ s₂ s₃ ≡ false → Judges l fqc rfci s₁ s₂ s₃ (Err SubflowBuffer)
       judges-subflows w = record {
         call = λ room. sym (up-picked l fqc rfci s₁ s₂ s₃ room ∙ rw (← h, ne_eqb fqc 1 n, w));
-        core = λ c z. absurd (cc);
-        quality = λ q z. absurd (cc);
+        core = λ c z. absurd cc;
+        quality = λ q z. absurd cc;
       }
 
       module _ (w : subflows_good c s₁ s₂ s₃ ≡ true) where
@@ -142,7 +140,7 @@ module _ (l : Link) (fqc rfci : ℕ) (s₁ s₂ s₃ : List ℕ) where
           call = λ room.
               ap (λ x. written x room) (frame-empty c s₁ s₂ s₃ (picked-good l fqc rfci c (sym h)) t w l.request fqc q e)
               ∙ sym (up-picked l fqc rfci s₁ s₂ s₃ room ∙ rw (← h, ne_eqb fqc 1 n, w));
-          core = λ c z. absurd (cc);
+          core = λ c z. absurd cc;
           quality = λ p z. let y : q ≡ p = cc in omega arith;
         }
 
@@ -152,5 +150,5 @@ module _ (l : Link) (fqc rfci : ℕ) (s₁ s₂ s₃ : List ℕ) where
           core = λ d z.
               let y : c ≡ d = cc in
               subst (λ d. HasCore d s₁ s₂ s₃) y (record { good = picked-good l fqc rfci c (sym h); type = t; flows = w });
-          quality = λ q z. absurd (cc);
+          quality = λ q z. absurd cc;
         }
