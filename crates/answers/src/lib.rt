@@ -1,4 +1,5 @@
-// The answers that the levels of the C interface share (include/amrwb.h), and how the entries' answers become them.
+// The answers that the levels of the C interface share (include/amrwb.h), and how the entries' answers become them. Each has its refusal, frame
+// and octet as fields of its own, since a C struct's layout is fixed.
 #![tactic(auto)]
 
 ghost use Rattle.std.specs.Prelude.{◌≡◌, List, Bool, ℕ};

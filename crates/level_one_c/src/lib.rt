@@ -1,4 +1,5 @@
 // Level one's static library (include/amrwb.h): each export calls level_one's function of its name, under the same clauses.
+// They are written out for each library: it exports only functions that it defines itself, and neither a `pub use` nor a macro defines one.
 #![tactic(auto)]
 
 ghost use Rattle.std.specs.Prelude.{◌≡◌, length};

@@ -136,6 +136,7 @@ pub fn amrwb_order_to_row(mode: u64, core: &[u8], row: &mut [u8]) -> Answer
     codec_order::order_to_row(mode, core, row).into()
 }
 
+// The number that stands for a class in the C interface.
 fn class_number(c: Reception) -> u64
     ensures { result ≡ class_number (reception_of c) }
 {
