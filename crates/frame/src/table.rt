@@ -8,7 +8,6 @@ ghost use Rattle.frame.specs.Rows.{fill_word};
 use crate::Format;
 
 // A row of the table: K, Class A, and the octets in IF1, IF2 and storage format.
-#[derive(Clone, Copy)]
 struct TypeRow {
     core: usize,
     class_a: usize,
@@ -17,7 +16,9 @@ struct TypeRow {
     storage: usize,
 }
 
-// The row of each type; all 0 for the reserved ones.
+const RESERVED: TypeRow = TypeRow { core: 0, class_a: 0, if1: 0, if2: 0, storage: 0 };
+
+// The row of each type.
 static TYPES: [TypeRow; 16] = [
     TypeRow { core: 132, class_a: 54, if1: 20, if2: 18, storage: 18 },
     TypeRow { core: 177, class_a: 64, if1: 26, if2: 23, storage: 24 },
@@ -29,10 +30,10 @@ static TYPES: [TypeRow; 16] = [
     TypeRow { core: 461, class_a: 72, if1: 61, if2: 59, storage: 59 },
     TypeRow { core: 477, class_a: 72, if1: 63, if2: 61, storage: 61 },
     TypeRow { core: 40, class_a: 40, if1: 8, if2: 6, storage: 6 },
-    TypeRow { core: 0, class_a: 0, if1: 0, if2: 0, storage: 0 },
-    TypeRow { core: 0, class_a: 0, if1: 0, if2: 0, storage: 0 },
-    TypeRow { core: 0, class_a: 0, if1: 0, if2: 0, storage: 0 },
-    TypeRow { core: 0, class_a: 0, if1: 0, if2: 0, storage: 0 },
+    RESERVED,
+    RESERVED,
+    RESERVED,
+    RESERVED,
     TypeRow { core: 0, class_a: 0, if1: 1, if2: 1, storage: 1 },
     TypeRow { core: 0, class_a: 0, if1: 1, if2: 1, storage: 1 },
 ];
@@ -78,7 +79,7 @@ pub fn header_bits(f: Format, t: usize) -> usize
 }
 
 // The octets of a frame whose type is not reserved, by its bits: where the format changes from call to call, that is a number to add and
-// not a choice of columns.
+// not a choice of columns. `div_ceil` would test the remainder too.
 pub fn octets_by_bits(f: Format, t: usize) -> usize
     requires { known t ≡ true }
     ensures { result ≡ octets (format_of f) t }
