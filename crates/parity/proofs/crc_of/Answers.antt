@@ -31,8 +31,3 @@ loop-i-preserved c =
     c.take_bit-r.ensures (take l.i (bits core)) l.invariant
     ∙ ap (λ b. num 8 (crc (take l.i (bits core) ++ b ∷ []))) c.bit_at.ensures
     ∙ ap (λ w. num 8 (crc w)) (sym (take_bit core l.i (omega arith)))
-
-pub returns : goal.returns
-returns c =
-    let e : c.loop-i.i ≡ c.args.n = omega arith in
-    c.loop-i.invariant ∙ ap (λ n. num 8 (crc (take n (bits c.args.core.now)))) e
