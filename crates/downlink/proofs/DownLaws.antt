@@ -1,27 +1,26 @@
 -- What is put into the buffers is the frame's core, split, and what is answered is the definition's. Assumes nothing.
-use mathlib.Core.Path.{◌≡◌, refl, sym, ap, ap₂, subst, ◌∙◌}
-use mathlib.Core.Bool.{Bool, true, false}
-use mathlib.Core.List.{List, [], ◌∷◌, ◌++◌}
-use Prim.Native.Nat.{ℕ, zero, suc, ◌+◌, ◌-◌, ◌*◌, ◌≤◌}
+use mathlib.Core.Path.{◌≡◌, refl, sym, ap, ap₂, ◌∙◌}
+use mathlib.Core.Bool.{Bool, true}
+use mathlib.Core.List.{List, ◌++◌}
+use Prim.Native.Nat.{ℕ, ◌+◌, ◌-◌, ◌*◌, ◌≤◌}
 use native.Mathlib.Omega.{arith}
-use Rattle.std.proofs.Common.{Result, Ok, Err}
+use Rattle.std.proofs.Common.{Ok}
 use lib.ListN.{length, take, drop, length-drop}
 use Rattle.std.proofs.lemmas.List.{drop-take}
 use lib.Seq.{take-take, length-take-le}
-use borrow.Author.Tests.{le-leb, lt-leb, eqb-true}
+use borrow.Author.Tests.{eqb-true}
 use Rattle.bits.specs.Bits.{bits, pack, octets_for}
 use Rattle.bits.proofs.BitLaws.{length-bits}
 use Rattle.definitions.specs.Outcome.{Outcome, refused, ok}
-use Rattle.definitions.specs.Frames.{if1, Frame, known, core_bits, octets, header_bits, core_in}
-use Rattle.definitions.specs.Reading.{overwritten, read_with}
-use Rattle.frame.specs.Answers.{number_of, frame_with}
+use Rattle.definitions.specs.Frames.{if1, known, core_bits, octets, header_bits, core_in}
+use Rattle.definitions.specs.Reading.{overwritten}
+use Rattle.frame.specs.Answers.{frame_with}
 use Rattle.frame.specs.declared.FrameHeader.{FrameHeader}
-use Rattle.frame.specs.declared.Refusal.{Refusal}
 use Rattle.frame.proofs.TableLaws.{room}
 use Rattle.links.specs.declared.Combination.{Combination}
 use Rattle.links.specs.declared.Link.{Link}
 use Rattle.links.specs.Sets.{combinations, by_type, lookup}
-use Rattle.links.specs.Calls.{Down, split, roomy, down_frame, down_call, down_after}
+use Rattle.links.specs.Calls.{Down, split, roomy, down_frame, down_after}
 use Rattle.links.proofs.SetLaws.{combination-good, lookup-found}
 use Rattle.downlink_flows.specs.Answers.{numbers, subflows_of, SubflowsPut}
 use Rattle.downlink_flows.specs.declared.Subflows.{Subflows}
