@@ -1,5 +1,6 @@
 -- Rows of five numbers are combinations; the combinations of the rows so far are good and stand in the first places. Assumes nothing.
-use Rattle.std.proofs.Common.{◌≡◌, ℕ, zero, suc, ◌+◌, ◌-◌, ◌*◌, ◌/◌, ◌%◌, ◌<◌, ◌≤◌, ◌≢◌, true, false, ◌&&◌, List, [], ◌∷◌, ◌++◌, map, length, length-take-le, take, take-append-drop, drop, get_or, set, replicate, Some, None, refl, sym, ap, ◌∙◌, append_assoc, arith}
+use Rattle.std.proofs.Common.{◌≡◌, ℕ, zero, suc, ◌+◌, ◌-◌, ◌*◌, ◌/◌, ◌%◌, ◌<◌, ◌≤◌, ◌≢◌, true, false, ◌&&◌, ◌∷◌, ◌++◌, ◌∙◌}
+use Rattle.std.proofs.Common.{List, [], map, length, length-take-le, take, take-append-drop, drop, get_or, set, replicate, Some, None, refl, sym, ap, append_assoc, arith}
 use Rattle.std.proofs.lemmas.List.{set_at, take_all, take_at, map_more, map-append, length-map}
 use Rattle.std.proofs.lemmas.Bool.Decides.{nat_tests}
 use borrow.Author.Tests.{eq-eqb, le-leb}
@@ -56,7 +57,7 @@ abbrev pub stored : ℕ → List (List ℕ) → List Combination
 stored n rows = map five (take n rows) ++ replicate (11 - n) none
 
 -- row n makes combination c, if it makes a good one
-module _ (rows : List (List ℕ)) (few : length rows ≤ 11) (n : ℕ) (h : n < length rows) where
+module _ (rows : List (List ℕ)) (few : length rows ≤ 11) (n : ℕ) (h : n < length rows) (ps : List Combination) (held : ps ≡ stored n rows) where
   abbrev row : Combination
   row = five (get_or rows n [])
 
@@ -66,30 +67,32 @@ module _ (rows : List (List ℕ)) (few : length rows ≤ 11) (n : ℕ) (h : n < 
   size : length (map five (take n rows)) ≡ n
   size = length-map (take n rows) five ∙ length-take-le n rows (omega arith)
 
-  pub stored_next : (c : Combination) → ok c ≡ unless 11 (combination_good row) (ok row) → set (stored n rows) n c ≡ stored (n + 1) rows
+  pub stored_next : (c : Combination) → ok c ≡ unless 11 (combination_good row) (ok row) → set ps n c ≡ stored (n + 1) rows
   stored_next c e =
       let ds : List Combination = map five (take n rows) in
       let os : List Combination = replicate (11 - (n + 1)) none in
       let f : c ≡ row = grind (arith, nat_tests) in
-      ap (λ m. set (ds ++ replicate m none) n c) {x = 11 - n} {y = suc (11 - (n + 1))} (omega arith)
+      ap (λ ps. set ps n c) held
+      ∙ ap (λ m. set (ds ++ replicate m none) n c) {x = 11 - n} {y = suc (11 - (n + 1))} (omega arith)
       ∙ set_at ds none os c n size
       ∙ sym (append_assoc ds (c ∷ []) os)
       ∙ ap (λ ds. ds ++ os) (ap (λ d. ds ++ d ∷ []) f ∙ sym more)
 
   module _ (good : all_good (map five (take n rows)) ≡ true) where
-    turn : all_good (map five (take (n + 1) rows)) ≡ (combination_good row && apart row (take n (stored n rows)))
+    turn : all_good (map five (take (n + 1) rows)) ≡ (combination_good row && apart row (take n ps))
     turn =
         let ds : List Combination = map five (take n rows) in
-        ap all_good more ∙ all_good-snoc ds row good ∙ ap (λ cs. combination_good row && apart row cs) (sym (take_at ds (replicate (11 - n) none) n size))
+        let t = take_at ds (replicate (11 - n) none) n size in
+        ap all_good more ∙ all_good-snoc ds row good ∙ ap (λ cs. combination_good row && apart row cs) (sym (ap (take n) held ∙ t))
 
     pub not_good : refused 11 ≡ unless 11 (combination_good row) (ok row) → all_good (map five (take (n + 1) rows)) ≡ false
     not_good e = let t = turn in grind (arith, nat_tests)
 
     module _ (c : Combination) (e : ok c ≡ unless 11 (combination_good row) (ok row)) where
-      pub not_apart : false ≡ apart c (take n (stored n rows)) → all_good (map five (take (n + 1) rows)) ≡ false
+      pub not_apart : false ≡ apart c (take n ps) → all_good (map five (take (n + 1) rows)) ≡ false
       not_apart f = let t = turn in grind (arith, nat_tests)
 
-      pub good_next : true ≡ apart c (take n (stored n rows)) → all_good (map five (take (n + 1) rows)) ≡ true
+      pub good_next : true ≡ apart c (take n ps) → all_good (map five (take (n + 1) rows)) ≡ true
       good_next f = let t = turn in grind (arith, nat_tests)
 
 -- ---- what numbers write
@@ -128,4 +131,5 @@ module _ (ns : List ℕ) (rows : List (List ℕ)) (front : rows ≡ first_chunks
     right some few h =
         let e : map five (take (length rows) rows) ≡ in_fives ns = ap (map five) (take_all (length rows) rows (omega arith)) ∙ sym combinations in
         let g : all_good (in_fives ns) ≡ true = ap all_good (sym e) ∙ h in
-        rw (e, ← long, eq-eqb (length ns % 5) 0 whole, le-leb 1 (length (in_fives ns)) (omega (arith, long)), le-leb (length (in_fives ns)) 11 (omega (arith, long)), g)
+        let n : ℕ = length (in_fives ns) in
+        rw (e, ← long, eq-eqb (length ns % 5) 0 whole, le-leb 1 n (omega (arith, long)), le-leb n 11 (omega (arith, long)), g)

@@ -8,10 +8,13 @@ use Rattle.definitions.specs.Frames.{Row, row, type_table, row_in, core_column, 
 use Rattle.links.specs.declared.Combination.{Combination}
 use Rattle.links.specs.Sets.{apart}
 
-pub apart_is_all : (c : Combination) (ds : List Combination) → list_all (λ d. not (eqb c.rfci d.rfci) && not (eqb c.frame_type d.frame_type)) ds ≡ apart c ds
+abbrev pub is_apart : Combination → Combination → Bool
+is_apart c d = not (eqb c.rfci d.rfci) && not (eqb c.frame_type d.frame_type)
+
+pub apart_is_all : (c : Combination) (ds : List Combination) → list_all (is_apart c) ds ≡ apart c ds
 apart_is_all c [] = refl
 apart_is_all c (d ∷ ds) =
-    elim (eqb c.rfci d.rfci) as (λ z. ((not z && not (eqb c.frame_type d.frame_type)) && list_all (λ d. not (eqb c.rfci d.rfci) && not (eqb c.frame_type d.frame_type)) ds)
+    elim (eqb c.rfci d.rfci) as (λ z. ((not z && not (eqb c.frame_type d.frame_type)) && list_all (is_apart c) ds)
           ≡ (not z && (not (eqb c.frame_type d.frame_type) && apart c ds))) [
       true ↦ refl
       | false ↦ ap (λ b. not (eqb c.frame_type d.frame_type) && b) (apart_is_all c ds)
