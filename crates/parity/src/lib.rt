@@ -15,7 +15,7 @@ const LOWER: u8 = 0x71;
 fn step(r: u8) -> u8
     ensures { result ≡ num 8 (divide 1 (digits 8 r ++ false ∷ [])) }
 {
-    let mask = std::num::wrapping_sub_u8(0, r >> 7);
+    let mask = 0u8.wrapping_sub(r >> 7);
     (r << 1) ^ (mask & LOWER)
 }
 
