@@ -151,7 +151,7 @@ module _ (f g : Format) (t : ℕ) (src out : List ℕ) (x : Frame) (h : t ≤ 9)
 
     -- from its first bit, and from its fourth
     pub whole-ends : Ends (drop (core_at f) src) 0 (core_octets t - 1) x.core (fill_bits f t) after
-    whole-ends = record { stream = from-core; border = omega (arith, whole-filled, (sizes t h).some); }
+    whole-ends = record { stream = from-core; border = omega (arith, whole-filled, (sizes t h).some) }
 
     pub fourth-ends : Ends (drop (core_at f) src) 3 (core_octets t - 1) (drop 3 x.core) (fill_bits f t) after
     fourth-ends = record {

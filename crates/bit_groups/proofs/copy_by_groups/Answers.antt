@@ -14,10 +14,10 @@ returns g c =
     let first = c.copy_group.ensures 0 (omega arith) refl in
     let there : (h : ℕ) × (length c.args.dst.now - 16 ≤ h) × (take (8 * h) (bits c.if-m-gt32.dst) ≡ take (8 * h) s) = elim c.if-m-gt32.branch [
       | then-m-gt32 w ↦ (
-          m - 32 + 16,
-          omega arith,
-          rw w.dst-is (w.copy_group-then-m-gt32-2.ensures 32 (omega arith) (w.copy_group-then-m-gt32.ensures 16 (omega arith) first)),
-        )
+        m - 32 + 16,
+        omega arith,
+        rw w.dst-is (w.copy_group-then-m-gt32-2.ensures 32 (omega arith) (w.copy_group-then-m-gt32.ensures 16 (omega arith) first)),
+      )
       | else-m-gt32 w ↦ (16, omega arith, rw w.dst-is first)
     ] in
     let all : 8 * (length c.args.dst.now - 16 + 16) ≡ 8 * length c.args.dst.now = omega arith in
