@@ -74,7 +74,7 @@ pub fn forwarded_after(last: u16, d: Result<Subflows, Refusal>) -> u16
     ensures { (l : Link) → l.forwarded ≡ last → link_by l.set l.request result ≡ next_link (down_of d) l }
 {
     match d {
-        Ok(s) => s.forward.map_or(last, |r| u16::from(r)),
+        Ok(s) => s.forward.map_or(last, u16::from),
         Err(_) => last,
     }
 }

@@ -45,7 +45,7 @@ fn fqc_of(quality: u8) -> u8
 }
 
 // Puts the bits of `frame` from index `from` on into the front of a sub-flow's buffer. Most third sub-flows have no bits.
-// Not one function with Up's `append`: that one puts its run behind others, and tells of the buffer by what it is asked to hold.
+// Not one function with Up's `append`, which puts its run behind others: the test of no bits is all that the two share.
 fn put_subflow(frame: &[u8], from: usize, size: u16, s: &mut [u8])
     requires { (from + size ≤ 8 * length frame.now) × (size ≤ 8 * length s.old) × (from + size < 2 ^ 32) }
     ensures { s.new ≡ pack (take size (drop from (bits frame.now))) ++ drop (octets_for size) s.old }
@@ -56,7 +56,7 @@ fn put_subflow(frame: &[u8], from: usize, size: u16, s: &mut [u8])
 }
 
 // Splits the core that begins at bit `from` of `frame`. Sub-flow 3 starts at size 1 + size 2.
-// Three buffers and no struct of them: what it leaves behind a struct of `&mut` a contract names by places alone, as `b.exit.1.1.0`.
+// Three buffers and no struct of them: what a call leaves behind a struct of `&mut` is named in its contract by places, as `b.exit.1.1.0`.
 pub fn put_subflows(
     c: Combination,
     frame: &[u8],
