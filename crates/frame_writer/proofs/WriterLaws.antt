@@ -169,9 +169,3 @@ module _ (h : FrameHeader) (d : List ℕ) (a : ℕ) (m : carries_modes if1 h.fra
       ∙ ap (λ l. l ++ (pack core ++ rest)) (sym (pack_bits (o ∷ p ∷ c ∷ []) (octets-three o p c ho hp hc)))
       ∙ sym (append_assoc (pack (bits (o ∷ p ∷ c ∷ []))) (pack core) rest)
       ∙ ap (λ l. l ++ rest) (sym (pack-append (bits (o ∷ p ∷ c ∷ [])) core 3 (length-bits (o ∷ p ∷ c ∷ []))) ∙ ap (λ l. pack (l ++ core)) (sym head))
-
--- only IF1 carries modes
-pub only_if1 : (f : Format) (t : ℕ) → carries_modes f t ≡ true → if1 ≡ f
-only_if1 if1 t c = refl
-only_if1 if2 t c = absurd (let z : ◌≡◌ {A = ℕ} 0 1 = cc in omega arith)
-only_if1 storage t c = absurd (let z : ◌≡◌ {A = ℕ} 0 1 = cc in omega arith)

@@ -8,7 +8,7 @@ use native.Mathlib.Omega.{arith}
 use lib.ListN.{length, drop, length-set, length-drop}
 use lib.Seq.{length-take-le}
 use Rattle.definitions.specs.Frames.{if1, octets, carries_modes}
-use Rattle.definitions.proofs.Tables.{known-below, class_a_within}
+use Rattle.definitions.proofs.Tables.{class_a_within}
 use Rattle.frame.proofs.TableLaws.{modes_carried, room}
 use Rattle.frame_writer.proofs.WriterLaws.{modes_known, modes_is}
 use Rattle.frame_writer.proofs.put_modes.Goals as goal
@@ -23,18 +23,12 @@ slice_bounds-crc_of-start c = omega (arith, sized _ _ c.requires.0 c.requires.4)
 pub slice_bounds-crc_of-count : goal.slice_bounds-crc_of-count
 slice_bounds-crc_of-count c = omega (arith, sized _ _ c.requires.0 c.requires.4)
 
-pub class_a-requires : goal.class_a-requires
-class_a-requires c = known-below _ (modes_known _ c.requires.0)
-
 pub crc_of-crc-requires : goal.crc_of-crc-requires
 crc_of-crc-requires c =
     let t = c.args.h.frame_type in
     let d = c.args.out.now in
     let k = modes_known t c.requires.0 in
     omega (arith, c.class_a.ensures.0, (class_a_within t k).0, (room if1 t k).0, (modes_carried if1 t k c.requires.0).0, c.requires.4, length-take-le (length d - 3) (drop 3 d) (omega (arith, length-drop 3 d)), length-drop 3 d)
-
-pub first_octet-requires : goal.first_octet-requires
-first_octet-requires c = (known-below _ (modes_known _ c.requires.0), c.requires.1)
 
 pub bounds-out-0 : goal.bounds-out-0
 bounds-out-0 c = omega (arith, sized _ _ c.requires.0 c.requires.4)

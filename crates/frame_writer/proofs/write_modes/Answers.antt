@@ -4,13 +4,9 @@ use native.Mathlib.Omega.{arith}
 use lib.ListN.{take, drop}
 use Rattle.bits.specs.Bits.{bits, Octets}
 use Rattle.definitions.specs.Frames.{if1, core_bits, octets}
-use Rattle.definitions.proofs.Tables.{known-below}
 use Rattle.frame.proofs.TableLaws.{modes_carried, room}
 use Rattle.frame_writer.proofs.WriterLaws.{core-size, three-there, core-put}
 use Rattle.frame_writer.proofs.write_modes.Goals as goal
-
-pub core_bits-requires : goal.core_bits-requires
-core_bits-requires c = known-below _ c.requires.0.type_known
 
 pub put_run-requires : goal.put_run-requires
 put_run-requires c =
