@@ -7,53 +7,61 @@ use native.Mathlib.Omega.{arith}
 use lib.Dec.{eqb, leb}
 use lib.ListN.{length}
 use borrow.Author.Tests.{leb-true, le-leb, lt-leb, eqb-true, eq-eqb}
-use Rattle.definitions.specs.Outcome.{refused, ok}
+use Rattle.std.specs.Prelude.{Result}
+use Rattle.definitions.specs.Outcome.{Outcome, refused, ok, unless, and_then}
 use Rattle.definitions.specs.Frames.{Format, if1, if2, storage, Frame}
 use Rattle.definitions.specs.Reading.{format_numbered, overwritten}
 use Rattle.definitions.proofs.Frames.{never}
-use Rattle.recordings.specs.Placed.{Placed, refused_at, done, and_then_at, unless_at}
+use Rattle.recordings.specs.Placed.{Placed, refused_at, done, and_then_at, unless_at, placed}
 use Rattle.recordings.specs.Recordings.{limit, read_recording}
 use Rattle.recordings.specs.Conversion.{converted, conversion, judged, convert_call, counted_at, length_call, buffer_after}
 use Rattle.recordings.proofs.Scan.{not_done, not_refused}
 use Rattle.recording_reader.specs.Answers.{counts_of}
 use Rattle.recording_reader.specs.declared.Counts.{Counts}
+use Rattle.recording_reader.specs.declared.RefusedAt.{RefusedAt}
+use Rattle.frame_carrier.specs.Asked.{asked}
 use Rattle.recording_reader.proofs.ScanLaws.{total}
-use Rattle.recordings.specs.Demand3.{format_number}
-use Rattle.recording_writer.specs.Output.{Same}
 use Rattle.converter.specs.Output.{IntoBuffer}
 
 -- ---- 11
 
-module _ {A : Type 0} (from to request : ℕ) (next : Format → Format → Placed A) where
-  pub judged_from : format_numbered from ≡ refused 11 → judged from to request next ≡ refused_at 11 0 0
-  judged_from e = rw (e)
+module _ (from to request : ℕ) {A : Type 0} (next : Format → Format → Placed A) where
+  abbrev asks : Outcome Format → Outcome Format → Bool → Outcome (Format × Format × ℕ)
+  asks a b c = and_then a (λ f. and_then b (λ g. unless 11 c (ok (f, g, request))))
 
-  pub judged_to : (f : Format) → format_numbered from ≡ ok f → format_numbered to ≡ refused 11 → judged from to request next ≡ refused_at 11 0 0
-  judged_to f e d = rw (e, d)
+  abbrev judges : Outcome Format → Outcome Format → Bool → Placed A
+  judges a b c = placed a 0 0 (λ f. placed b 0 0 (λ g. unless_at 11 c (next f g)))
 
-  pub judged-request : (f g : Format) → format_numbered from ≡ ok f → format_numbered to ≡ ok g → 8 < request → judged from to request next ≡ refused_at 11 0 0
-  judged-request f g e d h = rw (e, d, lt-leb request 8 h)
+  judged_refused : (n : ℕ) → refused n ≡ asked from to request → judged from to request next ≡ refused_at n 0 0
+  judged_refused n h = go (format_numbered from) (format_numbered to) (leb request 8) h
+    where
+      go : (a b : Outcome Format) (c : Bool) → refused n ≡ asks a b c → judges a b c ≡ refused_at n 0 0
+      go (refused m) b c h = let q : m ≡ n = cc in ap (λ k. refused_at k 0 0) q
+      go (ok f) (refused m) c h = let q : m ≡ n = cc in ap (λ k. refused_at k 0 0) q
+      go (ok f) (ok g) false h = let q : 11 ≡ n = cc in ap (λ k. refused_at k 0 0) q
+      go (ok f) (ok g) true h = never n (f, g, request) h
 
-  pub judged_passes : (f g : Format) → format_numbered from ≡ ok f → format_numbered to ≡ ok g → request ≤ 8 → judged from to request next ≡ next f g
-  judged_passes f g e d h = rw (e, d, le-leb request 8 h)
+  judged_passes : (f g : Format) (r : ℕ) → ok (f, g, r) ≡ asked from to request → (judged from to request next ≡ next f g) × (r ≡ request)
+  judged_passes f g r h = go (format_numbered from) (format_numbered to) (leb request 8) h
+    where
+      go : (a b : Outcome Format) (c : Bool) → ok (f, g, r) ≡ asks a b c → (judges a b c ≡ next f g) × (r ≡ request)
+      go (refused m) b c h = never m (f, g, r) (sym h)
+      go (ok f') (refused m) c h = never m (f, g, r) (sym h)
+      go (ok f') (ok g') false h = never 11 (f, g, r) (sym h)
+      go (ok f') (ok g') true h =
+          let q : ◌≡◌ {A = Format × Format × ℕ} (f, g, r) (f', g', request) = cc in
+          (ap₂ next (sym (ap (λ (y : Format × Format × ℕ). y.0) q)) (sym (ap (λ (y : Format × Format × ℕ). y.1) q)), ap (λ (y : Format × Format × ℕ). y.2) q)
 
 module _ (from to request : ℕ) (s : List ℕ) where
-  pub no_from : format_numbered from ≡ refused 11 → length_call from to request s ≡ refused_at 11 0 0
+  pub length_refused : (n : ℕ) → refused n ≡ asked from to request → refused_at n 0 0 ≡ length_call from to request s
   unfolding length_call
-  no_from = judged_from from to request _
+  length_refused n h = sym (judged_refused from to request _ n h)
 
-  pub no_to : (f : Format) → format_numbered from ≡ ok f → format_numbered to ≡ refused 11 → length_call from to request s ≡ refused_at 11 0 0
+  pub length_passes : (f g : Format) (r : ℕ) → ok (f, g, r) ≡ asked from to request → counted_at (conversion f g r s) ≡ length_call from to request s
   unfolding length_call
-  no_to = judged_to from to request _
-
-  pub no_request_lem : (f g : Format) → format_numbered from ≡ ok f → format_numbered to ≡ ok g → 8 < request → length_call from to request s ≡ refused_at 11 0 0
-  unfolding length_call
-  no_request_lem = judged-request from to request _
-
-  pub length_passes : (f g : Format) → format_numbered from ≡ ok f → format_numbered to ≡ ok g → request ≤ 8
-      → length_call from to request s ≡ counted_at (conversion f g request s)
-  unfolding length_call
-  length_passes = judged_passes from to request _
+  length_passes f g r h =
+      let j = judged_passes from to request (λ f g. counted_at (conversion f g request s)) f g r h in
+      ap (λ r. counted_at (conversion f g r s)) j.1 ∙ sym j.0
 
 -- ---- what is judged before the room
 
@@ -138,72 +146,45 @@ refused_is (refused_at m j p) n k at h =
 refused_is (done y) n k at h = not_refused n k at _ (sym h)
 
 -- a refused call leaves the buffer
-pub into_refused : (o : Placed (ℕ × List ℕ)) (d : List ℕ) (a : Counts) (n k at : ℕ) → o ≡ refused_at n k at → counts_of a ≡ refused_at n k at → IntoBuffer o d d a
+pub into_refused : (o : Placed (ℕ × List ℕ)) (d : List ℕ) (a : Result Counts RefusedAt) (n k at : ℕ) → o ≡ refused_at n k at → counts_of a ≡ refused_at n k at → IntoBuffer o d d a
 into_refused o d a n k at e h = record { answer = h ∙ ap counted_at (sym e); buffer = ap (λ o. buffer_after o d) (sym e) }
 
 -- refused by 11
-module _ (from to request : ℕ) (s d : List ℕ) (a : Counts) (h : counts_of a ≡ refused_at 11 0 0) where
-  pub into_from : format_numbered from ≡ refused 11 → IntoBuffer (convert_call from to request s (length d)) d d a
-  unfolding convert_call
-  into_from e = into_refused _ d a 11 0 0 (judged_from from to request _ e) h
+pub into_unasked : (from to request : ℕ) (s d : List ℕ) (a : Result Counts RefusedAt) (n : ℕ) → refused n ≡ asked from to request → counts_of a ≡ refused_at n 0 0
+    → IntoBuffer (convert_call from to request s (length d)) d d a
+unfolding convert_call
+into_unasked from to request s d a n h e = into_refused _ d a n 0 0 (judged_refused from to request _ n h) e
 
-  pub into_to : (f : Format) → format_numbered from ≡ ok f → format_numbered to ≡ refused 11 → IntoBuffer (convert_call from to request s (length d)) d d a
+module _ (from to request : ℕ) (s d : List ℕ) (f g : Format) (r : ℕ) (q : ok (f, g, r) ≡ asked from to request) where
+  call_is : convert_call from to request s (length d) ≡ and_then_at (conversion f g r s) (λ y. unless_at 10 (leb (length y.1) (length d)) (done y))
   unfolding convert_call
-  into_to f e i = into_refused _ d a 11 0 0 (judged_to from to request _ f e i) h
+  call_is =
+      let j = judged_passes from to request (λ f g. and_then_at (conversion f g request s) (λ y. unless_at 10 (leb (length y.1) (length d)) (done y))) f g r q in
+      j.0 ∙ ap (λ r. and_then_at (conversion f g r s) (λ y. unless_at 10 (leb (length y.1) (length d)) (done y))) (sym j.1)
 
-  pub into_request : (f g : Format) → format_numbered from ≡ ok f → format_numbered to ≡ ok g → 8 < request → IntoBuffer (convert_call from to request s (length d)) d d a
-  unfolding convert_call
-  into_request f g e i l = into_refused _ d a 11 0 0 (judged-request from to request _ f g e i l) h
-
-module _ (from to request : ℕ) (s : List ℕ) (d : List ℕ) (f g : Format) (ef : format_numbered from ≡ ok f) (eg : format_numbered to ≡ ok g) (er : request ≤ 8) where
-  call_is : convert_call from to request s (length d)
-      ≡ and_then_at (conversion f g request s) (λ y. unless_at 10 (leb (length y.1) (length d)) (done y))
-  unfolding convert_call
-  call_is = judged_passes from to request _ f g ef eg er
-
-  pub into_refused_reading : (a : Counts) (n k at : ℕ) → counts_of a ≡ refused_at n k at → counts_of a ≡ counted_at (conversion f g request s)
+  pub into_refused_reading : (a : Result Counts RefusedAt) (n k at : ℕ) → counts_of a ≡ refused_at n k at → refused_at n k at ≡ counted_at (conversion f g r s)
       → IntoBuffer (convert_call from to request s (length d)) d d a
   into_refused_reading a n k at h e =
       into_refused (convert_call from to request s (length d)) d a n k at
-      (call_is ∙ ap (λ o. and_then_at o (λ y. unless_at 10 (leb (length y.1) (length d)) (done y))) (refused_is (conversion f g request s) n k at (sym h ∙ e))) h
+      (call_is ∙ ap (λ o. and_then_at o (λ y. unless_at 10 (leb (length y.1) (length d)) (done y))) (refused_is (conversion f g r s) n k at e)) h
 
-  module _ (k need : ℕ) (p : Planned f g request s k need) where
-    room-judged : (b : Bool) → leb (length (converted f g request p.xs)) (length d) ≡ b
-        → convert_call from to request s (length d) ≡ unless_at 10 b (done (length p.xs, converted f g request p.xs))
+  module _ (k need : ℕ) (p : Planned f g r s k need) where
+    room-judged : (b : Bool) → leb (length (converted f g r p.xs)) (length d) ≡ b
+        → convert_call from to request s (length d) ≡ unless_at 10 b (done (length p.xs, converted f g r p.xs))
     room-judged b e =
         call_is ∙ ap (λ o. and_then_at o (λ y. unless_at 10 (leb (length y.1) (length d)) (done y))) p.written
-        ∙ ap (λ t. unless_at 10 t (done (length p.xs, converted f g request p.xs))) e
+        ∙ ap (λ t. unless_at 10 t (done (length p.xs, converted f g r p.xs))) e
 
-    pub into_short : (a : Counts) → length d < need → counts_of a ≡ refused_at 10 0 0 → IntoBuffer (convert_call from to request s (length d)) d d a
+    pub into_short : (a : Result Counts RefusedAt) → length d < need → counts_of a ≡ refused_at 10 0 0 → IntoBuffer (convert_call from to request s (length d)) d d a
     into_short a l h =
         into_refused (convert_call from to request s (length d)) d a 10 0 0
-        (room-judged false (lt-leb (length (converted f g request p.xs)) (length d) (omega (arith, p.size)))) h
+        (room-judged false (lt-leb (length (converted f g r p.xs)) (length d) (omega (arith, p.size)))) h
 
-    pub into_done : (d' : List ℕ) (a : Counts) → need ≤ length d → counts_of a ≡ done (k, need) → d' ≡ overwritten (converted f g request p.xs) d
+    pub into_done : (d' : List ℕ) (a : Result Counts RefusedAt) → need ≤ length d → counts_of a ≡ done (k, need) → d' ≡ overwritten (converted f g r p.xs) d
         → IntoBuffer (convert_call from to request s (length d)) d d' a
     into_done d' a l h e =
-        let o = room-judged true (le-leb (length (converted f g request p.xs)) (length d) (omega (arith, p.size))) in
+        let o = room-judged true (le-leb (length (converted f g r p.xs)) (length d) (omega (arith, p.size))) in
         record {
           answer = h ∙ ap₂ (λ i j. done (i, j)) p.frames p.size ∙ ap counted_at (sym o);
           buffer = e ∙ ap (λ o. buffer_after o d) (sym o);
         }
-
--- ---- the same format
-
-number_is : (n : ℕ) (f : Format) → format_numbered n ≡ ok f → n ≡ format_number f
-number_is zero f h = never 11 f h
-number_is (suc zero) f h = ap format_number (let e : if1 ≡ f = cc in e)
-number_is (suc (suc zero)) f h = ap format_number (let e : if2 ≡ f = cc in e)
-number_is (suc (suc (suc zero))) f h = ap format_number (let e : storage ≡ f = cc in e)
-number_is (suc (suc (suc (suc n)))) f h = never 11 f h
-
-pub same_numbers : (from to : ℕ) (f g : Format) → format_numbered from ≡ ok f → format_numbered to ≡ ok g → Same (eqb from to) f g
-same_numbers from to f g ef eg = record {
-  equal = λ e.
-      let d : from ≡ to = eqb-true _ _ e in
-      let q : ok f ≡ ok g = sym ef ∙ ap format_numbered d ∙ eg in cc;
-  unequal = λ e q.
-      let d : from ≡ to = number_is from f ef ∙ ap format_number q ∙ sym (number_is to g eg) in
-      let t : true ≡ false = sym (eq-eqb from to d) ∙ e in
-      absurd (let z : ◌≡◌ {A = ℕ} 0 1 = cc in omega arith);
-}

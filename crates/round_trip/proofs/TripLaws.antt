@@ -16,12 +16,14 @@ use Rattle.recordings.specs.Demand3.{ValidRecording, format_number}
 use Rattle.recordings.proofs.Demand3.{demand_three}
 use Rattle.recording_reader.specs.Answers.{counts_of}
 use Rattle.recording_reader.specs.declared.Counts.{Counts}
+use Rattle.recording_reader.specs.declared.RefusedAt.{RefusedAt}
+use Rattle.std.specs.Prelude.{Result}
 use Rattle.converter.specs.Output.{IntoBuffer}
 use Rattle.converter.proofs.CallLaws.{refused_is}
 use Rattle.round_trip.specs.Trip.{back_call, Returned, MakesTrip}
 
 -- the promise for every input gives the one of demand 3
-module _ (from to request : ℕ) (s mid₀ mid out₀ out : List ℕ) (a : Counts) (o : Octets s)
+module _ (from to request : ℕ) (s mid₀ mid out₀ out : List ℕ) (a : Result Counts RefusedAt) (o : Octets s)
     (answer : counts_of a ≡ counted_at (back_call from to request s (length mid₀) (length out₀)))
     (middle : mid ≡ buffer_after (convert_call from to request s (length mid₀)) mid₀)
     (output : out ≡ buffer_after (back_call from to request s (length mid₀) (length out₀)) out₀) where
@@ -45,7 +47,7 @@ module _ (from to request : ℕ) (s mid₀ mid out₀ out : List ℕ) (a : Count
   makes_trip = record { answer = answer; middle = middle; output = output; returns = returned }
 
 -- the first call was refused
-pub stays : (from to request : ℕ) (s mid₀ mid out : List ℕ) (a : Counts) (n k at : ℕ) → Octets s
+pub stays : (from to request : ℕ) (s mid₀ mid out : List ℕ) (a : Result Counts RefusedAt) (n k at : ℕ) → Octets s
     → IntoBuffer (convert_call from to request s (length mid₀)) mid₀ mid a → counts_of a ≡ refused_at n k at → MakesTrip from to request s mid₀ mid out out a
 stays from to request s mid₀ mid out a n k at o i h =
     let e = refused_is (convert_call from to request s (length mid₀)) n k at (sym h ∙ i.answer) in
@@ -64,7 +66,7 @@ wrote (done y) k m h =
     let p : ◌≡◌ {A = ℕ × ℕ} (k, m) (y.0, length y.1) = cc in
     record { w = y.1; is = ap (λ j. done (j, y.1)) (sym (ap (λ (z : ℕ × ℕ). z.0) p)); many = sym (ap (λ (z : ℕ × ℕ). z.1) p) }
 
-module _ (from to request : ℕ) (s mid₀ mid : List ℕ) (a : Counts) (k m : ℕ)
+module _ (from to request : ℕ) (s mid₀ mid : List ℕ) (a : Result Counts RefusedAt) (k m : ℕ)
     (i : IntoBuffer (convert_call from to request s (length mid₀)) mid₀ mid a) (h : counts_of a ≡ done (k, m)) where
   written : Wrote (convert_call from to request s (length mid₀)) k m
   written = wrote (convert_call from to request s (length mid₀)) k m (sym h ∙ i.answer)
@@ -76,7 +78,7 @@ module _ (from to request : ℕ) (s mid₀ mid : List ℕ) (a : Counts) (k m : �
   mid_long = omega (arith, ap length mid_is, length-append written.w (drop (length written.w) mid₀), written.many)
 
   -- the second call was made
-  pub comes_back : (out₀ out : List ℕ) (b : Counts) → Octets s → IntoBuffer (convert_call to from request (take m mid) (length out₀)) out₀ out b
+  pub comes_back : (out₀ out : List ℕ) (b : Result Counts RefusedAt) → Octets s → IntoBuffer (convert_call to from request (take m mid) (length out₀)) out₀ out b
       → MakesTrip from to request s mid₀ mid out₀ out b
   comes_back out₀ out b o j =
       let t : take m mid ≡ written.w = ap (take m) mid_is ∙ take_at written.w (drop (length written.w) mid₀) m written.many in

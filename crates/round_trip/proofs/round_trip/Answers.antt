@@ -1,21 +1,23 @@
 -- `round_trip::round_trip` meets its contract: the second call gets what the first wrote. Assumes nothing.
 use borrow.Author.Rules.{rules}
-use mathlib.Core.Path.{ap}
+use mathlib.Core.Path.{◌≡◌, sym, ap, ◌∙◌}
+use Rattle.std.specs.Prelude.{Ok, Err}
 use Rattle.recording_reader.specs.Answers.{counts_of}
 use Rattle.round_trip.proofs.TripLaws.{stays, mid_long, comes_back}
 use Rattle.round_trip.proofs.round_trip.Goals as goal
 
-pub returns-in_default : goal.returns-in_default
-returns-in_default c =
+pub returns-in_err-written : goal.returns-in_err-written
+returns-in_err-written c =
     let a = c.args in
-    stays a.from a.to a.request a.s.now a.mid.now _ a.out.now _ _ _ _ (λ i. (c.type_inv.s i).fits) c.convert-a.ensures (ap counts_of c.in_default.is)
+    let e : c.from_residual.result ≡ Err c.in_err-written.field-0.0 = search rules in
+    stays a.from a.to a.request a.s.now a.mid.now _ a.out.now _ _ _ _ (λ i. (c.type_inv.s i).fits) (rw e c.in_err-written.ensures) (ap counts_of e)
 
 pub slice_bounds-convert-end : goal.slice_bounds-convert-end
 slice_bounds-convert-end c =
     let a = c.args in
-    mid_long a.from a.to a.request a.s.now a.mid.now _ c.convert-a.result _ _ c.convert-a.ensures (ap counts_of c.in-Done.is)
+    mid_long a.from a.to a.request a.s.now a.mid.now _ c.convert.result _ _ c.convert.ensures (ap counts_of c.in_ok-written.was)
 
 pub returns : goal.returns
 returns c =
     let a = c.args in
-    comes_back a.from a.to a.request a.s.now a.mid.now _ c.convert-a.result _ _ c.convert-a.ensures (ap counts_of c.in-Done.is) a.out.now _ _ (λ i. search rules) c.convert.ensures
+    comes_back a.from a.to a.request a.s.now a.mid.now _ c.convert.result _ _ c.convert.ensures (ap counts_of c.in_ok-written.was) a.out.now _ _ (λ i. search rules) c.convert-2.ensures
