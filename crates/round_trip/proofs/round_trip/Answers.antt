@@ -1,7 +1,7 @@
 -- `round_trip::round_trip` meets its contract: the second call gets what the first wrote. Assumes nothing.
 use borrow.Author.Rules.{rules}
-use mathlib.Core.Path.{◌≡◌, sym, ap, ◌∙◌}
-use Rattle.std.specs.Prelude.{Ok, Err}
+use mathlib.Core.Path.{◌≡◌, ap}
+use Rattle.std.specs.Prelude.{Err}
 use Rattle.recording_reader.specs.Answers.{counts_of}
 use Rattle.round_trip.proofs.TripLaws.{stays, mid_long, comes_back}
 use Rattle.round_trip.proofs.round_trip.Goals as goal
