@@ -167,7 +167,7 @@ pub fn amrwb_class(frame_type: u64, quality: u64, sti: u64) -> ClassAnswer
 }
 
 // The octets of a packed core; types above a SID frame's have none.
-#[tactic(auto, using(crate::proofs::NoCore::no_core))]
+#[tactic(auto, using(std::proofs::lemmas::Bool::Decides::nat_tests), unfolding(definitions::specs::Frames::core_bits))]
 fn packed_octets(t: u8) -> u64
     ensures { result ≡ core_octets t }
 {
