@@ -14,7 +14,7 @@ lookup-first : (k : Key) (n : ℕ) (cs : List Combination) → found_of 16 (firs
 lookup-first k n [] = refl
 lookup-first k n (c ∷ cs) =
     elim (has k n c && combination_good c) as (λ t. found_of 16 (cond t (Some c) (first k n cs)) ≡ cond t (ok c) (lookup k n cs)) [
-      true ↦ refl
+      | true ↦ refl
       | false ↦ lookup-first k n cs
     ]
 

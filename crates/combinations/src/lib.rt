@@ -32,7 +32,8 @@ pub fn combination_good(c: Combination) -> bool
 {
     u64::from(c.rfci) <= HIGHEST_RFCI
         && link_type(c.frame_type)
-        && usize::from(c.size1) + usize::from(c.size2) + usize::from(c.size3) == core_bits(usize::from(c.frame_type))
+        && usize::from(c.size1) + usize::from(c.size2) + usize::from(c.size3)
+            == core_bits(usize::from(c.frame_type))
 }
 
 // ---- lookup

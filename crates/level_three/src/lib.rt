@@ -8,17 +8,19 @@ ghost use Rattle.links.specs.History.{link_step, assign, release, rate};
 ghost use Rattle.answers.specs.Flat.{FlatOutput};
 ghost use Rattle.link_answers.specs.Flat.{link_numbers, FlatDown};
 
+use answers::Answer;
+use downlink::DownAnswer;
+// Level two's calls, as they are there.
 pub use level_two::{
     amrwb_build_if1, amrwb_build_if2, amrwb_build_stored, amrwb_class, amrwb_convert,
     amrwb_convert_length, amrwb_order_to_core, amrwb_order_to_row, amrwb_read_frame, amrwb_report,
     amrwb_validate, amrwb_view_next, amrwb_view_open,
 };
-
-use answers::Answer;
-use downlink::DownAnswer;
 use link_answers::{DownNumbers, LinkAnswer, moved_answer};
 use links::Link;
 use uplink_judge::SubflowOctets;
+
+// The link.
 
 pub fn amrwb_link_fresh() -> Link
     ensures { result ≡ fresh_link }

@@ -121,7 +121,7 @@ module _ (ns : List ℕ) (rows : List (List ℕ)) (front : rows ≡ first_chunks
     unfolding set_good
     wrong n h =
         let e : in_fives ns ≡ map five (take n rows) ++ map five (drop n rows) =
-            combinations ∙ ap (map five) (sym (take-append-drop n rows)) ∙ map-append five (take n rows) (drop n rows) in
+        combinations ∙ ap (map five) (sym (take-append-drop n rows)) ∙ map-append five (take n rows) (drop n rows) in
         let f = all_good-front (map five (take n rows)) (map five (drop n rows)) in
         grind (arith, nat_tests, e, f)
 

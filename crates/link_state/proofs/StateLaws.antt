@@ -15,8 +15,8 @@ pub apart_is_all : (c : Combination) (ds : List Combination) → list_all (is_ap
 apart_is_all c [] = refl
 apart_is_all c (d ∷ ds) =
     elim (eqb c.rfci d.rfci) as (λ z. ((not z && not (eqb c.frame_type d.frame_type)) && list_all (is_apart c) ds)
-          ≡ (not z && (not (eqb c.frame_type d.frame_type) && apart c ds))) [
-      true ↦ refl
+    ≡ (not z && (not (eqb c.frame_type d.frame_type) && apart c ds))) [
+      | true ↦ refl
       | false ↦ ap (λ b. not (eqb c.frame_type d.frame_type) && b) (apart_is_all c ds)
     ]
 
@@ -29,7 +29,7 @@ unfolding small
 column_small [] t h = omega arith
 column_small (row u k a x y z ∷ rows) t h =
     elim (eqb t u) as (λ b. core_column (cond b (row u k a x y z) (row_in rows t)) ≤ 477) [
-      true ↦ leb-true k 477 (grind (arith, nat_tests))
+      | true ↦ leb-true k 477 (grind (arith, nat_tests))
       | false ↦ column_small rows t (grind (arith, nat_tests))
     ]
 

@@ -19,11 +19,7 @@ const NUMBERS: usize = 5;
 // ---- a set from numbers
 
 // The combination that five numbers write, if it is a good one.
-#[tactic(
-    auto,
-    using(crate::proofs::StateLaws::core_within, std::proofs::lemmas::Bool::Decides::nat_tests),
-    unfolding(links::specs::Sets::combination_good)
-)]
+#[tactic(auto, using(crate::proofs::StateLaws::core_within, std::proofs::lemmas::Bool::Decides::nat_tests), unfolding(links::specs::Sets::combination_good))]
 fn combination_in(row: &[u64; NUMBERS]) -> Option<Combination>
     ensures { found_of 11 result ≡ unless 11 (combination_good (five row.now)) (ok (five row.now)) }
 {

@@ -13,7 +13,7 @@ returns-then-not-is_empty c =
     let ns = c.args.numbers.now in
     let k = c.as_chunks.ensures in
     elim c.then-not-is_empty.branch [
-      then-not-is_empty-via-then-not-is_empty w ↦ not_whole ns _ k.front k.front_len (grind (arith, nat_tests))
+      | then-not-is_empty-via-then-not-is_empty w ↦ not_whole ns _ k.front k.front_len (grind (arith, nat_tests))
       | then-not-is_empty-via-else-not-is_empty+then-is_empty w ↦
           too_few ns _ k.front k.front_len (grind (arith, nat_tests)) (grind (arith, nat_tests))
       | then-not-is_empty-via-else-not-is_empty+else-is_empty+then-rows-gt-PLACES w ↦
