@@ -4,7 +4,6 @@ use mathlib.Core.Bool.{true, false}
 use mathlib.Core.List.{List, ◌++◌}
 use Prim.Native.Nat.{ℕ, ◌-◌, ◌*◌, ◌<◌, ◌≤◌}
 use native.Mathlib.Omega.{arith}
-use lib.Dec.{eqb}
 use lib.ListN.{length, take, drop}
 use lib.Seq.{length-take-le}
 use borrow.Author.Tests.{le-leb, lt-leb, eq-eqb, ne_eqb}
@@ -33,12 +32,6 @@ fill_none c k l z =
     let none : 8 * length c - k ≡ 0 = omega arith in
     sym (ap (λ n. clear n (drop k (bits c))) none)
 
-pub fill_last : (c : List ℕ) (k r : ℕ) → length c ≡ octets_for k → r ≡ num (8 * length c - k) (drop (8 * length c - (8 * length c - k)) (bits c))
-    → eqb r 0 ≡ clear (8 * length c - k) (drop k (bits c))
-fill_last c k r l e =
-    let back : 8 * length c - (8 * length c - k) ≡ k = omega arith in
-    ap (λ n. eqb n 0) (e ∙ ap (λ n. num (8 * length c - k) (drop n (bits c))) back)
-
 -- `core_fields_good`: the SID mode lies within the core
 pub mode-within : (c : List ℕ) (t v : ℕ) → t ≡ 9 → v ≡ num 4 (drop 36 (bits c)) → v ≡ num 4 (drop 36 (buffer_core c t))
 mode-within c t v et ev =
@@ -52,14 +45,6 @@ pub record Measured (t q : ℕ) (c : List ℕ) : Type 0 where
   pub core-size : length c ≡ core_octets t
 
 module _ (f : Format) (t q i r : ℕ) (c : List ℕ) (room : ℕ) where
-  pub type_high : 15 < t → refused 11 ≡ build_check f t q i r c room
-  unfolding build_check
-  type_high h = rw (lt-leb t 15 h)
-
-  pub quality_high : t ≤ 15 → 1 < q → refused 11 ≡ build_check f t q i r c room
-  unfolding build_check
-  quality_high ht h = rw (le-leb t 15 ht, lt-leb q 1 h)
-
   pub type_reserved : t ≤ 15 → q ≤ 1 → octets f t ≡ 0 → refused 2 ≡ build_check f t q i r c room
   unfolding build_check
   type_reserved ht hq z = rw (le-leb t 15 ht, le-leb q 1 hq, no_octets_reserved f t (omega arith) z)
