@@ -44,6 +44,13 @@ pub header-room : (f g : Format) (r : ℕ) (xs : List Frame) (d : List ℕ) → 
 unfolding write_recording
 header-room f g r xs d h = omega (arith, length-append (file_header g) (coming f g r xs))
 
+-- it has room there, in the buffer and in storage format's
+pub header_fits : (f g : Format) (r : ℕ) (xs : List Frame) (d : List ℕ) (n : ℕ) → length (converted f g r xs) ≤ length d → n ≡ length (file_header g) → n ≤ 9
+    → (n ≤ length d) × (n ≡ length (take n d)) × (length (take n d) ≡ length (take n (file_header storage)))
+header_fits f g r xs d n h e l =
+    let k : n ≤ length d = omega (arith, header-room f g r xs d h) in
+    (k, omega (arith, length-take n d), omega (arith, length-take n d, length-take n (file_header storage)))
+
 -- the file header is the first n octets of storage format's, and they are copied
 pub header_put : (g : Format) (n : ℕ) (h d : List ℕ) → n ≡ length (file_header g) → h ≡ take n (file_header storage) → h ++ drop n d ≡ overwritten (file_header g) d
 header_put g n h d en eh = ap₂ (λ h n. h ++ drop n d) (eh ∙ ap (λ n. take n (file_header storage)) en ∙ front g) en

@@ -4,14 +4,14 @@ use mathlib.Core.Bool.{true}
 use mathlib.Core.List.{List}
 use Prim.Native.Nat.{ℕ, ◌+◌, ◌-◌, ◌<◌, ◌≤◌}
 use native.Mathlib.Omega.{arith}
-use lib.ListN.{length, take, drop, length-take, length-drop}
+use lib.ListN.{length, take, drop, length-drop}
 use lib.Seq.{length-take-le}
 use Rattle.bits.specs.Bits.{bits}
-use Rattle.definitions.specs.Frames.{Format, storage, known, octets, type_in}
+use Rattle.definitions.specs.Frames.{Format, known, octets, type_in}
 use Rattle.definitions.proofs.Tables.{sized}
 use Rattle.frame.specs.Answers.{format_of}
-use Rattle.recordings.specs.Recordings.{limit, file_header}
-use Rattle.recording_writer.proofs.WriteLaws.{header-room, header_put, header_long, Written, written_start, written-end, at_front, front_octets, front_room, part_type, part_carriable, part_written}
+use Rattle.recordings.specs.Recordings.{limit}
+use Rattle.recording_writer.proofs.WriteLaws.{header_fits, header_put, header_long, Written, written_start, written-end, at_front, front_octets, front_room, part_type, part_carriable, part_written}
 use Rattle.recording_writer.proofs.write_frames.Goals as goal
 
 -- the frame at hand: its type, and the places behind it
@@ -35,21 +35,15 @@ module _ {f g : Format} {r : ℕ} {s d₀ d : List ℕ} {at to : ℕ} (w : Writt
 
 pub slice_bounds-copy_from_slice-end : goal.slice_bounds-copy_from_slice-end
 slice_bounds-copy_from_slice-end c =
-    let a = c.args in
-    let p = c.requires.1 in
-    omega (arith, c.header_octets-to.ensures.0, header-room (format_of a.c.from) (format_of a.c.to) a.c.request p.0 a.out.now p.1.room)
+    (header_fits (format_of c.args.c.from) (format_of c.args.c.to) c.args.c.request c.requires.1.0 c.args.out.now _ c.requires.1.1.room c.header_octets-to.ensures.0 c.header_octets-to.ensures.1).0
 
 pub slice_bounds-copy_from_slice-end-2 : goal.slice_bounds-copy_from_slice-end-2
 slice_bounds-copy_from_slice-end-2 c =
-    let a = c.args in
-    let p = c.requires.1 in
-    omega (arith, c.header_octets-to.ensures.0, header-room (format_of a.c.from) (format_of a.c.to) a.c.request p.0 a.out.now p.1.room, length-take c.header_octets-to.result a.out.now)
+    (header_fits (format_of c.args.c.from) (format_of c.args.c.to) c.args.c.request c.requires.1.0 c.args.out.now _ c.requires.1.1.room c.header_octets-to.ensures.0 c.header_octets-to.ensures.1).1
 
 pub copy_from_slice-requires : goal.copy_from_slice-requires
 copy_from_slice-requires c =
-    let a = c.args in
-    let p = c.requires.1 in
-    omega (arith, c.header_octets-to.ensures, header-room (format_of a.c.from) (format_of a.c.to) a.c.request p.0 a.out.now p.1.room, length-take c.header_octets-to.result a.out.now, length-take c.header_octets-to.result (file_header storage))
+    (header_fits (format_of c.args.c.from) (format_of c.args.c.to) c.args.c.request c.requires.1.0 c.args.out.now _ c.requires.1.1.room c.header_octets-to.ensures.0 c.header_octets-to.ensures.1).2
 
 pub loop-at-init : goal.loop-at-init
 loop-at-init c =
