@@ -1,5 +1,5 @@
 // The report on a stored recording: how many octets and frames it has, and how many frames of each reception class. `report_recording` is the entry;
-// `Report` is `pub` for the C interface and for the program that prints it.
+// `Report` and `Reported` are `pub` for the C interface and for the program that prints them.
 #![tactic(auto)]
 
 ghost use Rattle.std.specs.Prelude.{◌≡◌, ◌≤◌, length};
@@ -29,6 +29,9 @@ pub struct Report {
     pub no_data: usize,
 }
 
+// The report, or the refusal with its place.
+pub type Reported = Result<Report, RefusedAt>;
+
 impl Report {
     // One frame more.
     fn count(&mut self, class: Reception)
@@ -46,7 +49,7 @@ impl Report {
 }
 
 // Counts the frames behind the file header, up to the first that is refused.
-fn count_frames(s: &[u8]) -> Result<Report, RefusedAt>
+fn count_frames(s: &[u8]) -> Reported
     requires { (9 ≤ length s.now) × (length s.now ≤ report_limit) }
     ensures { reported_of result ≡ and_then_at (scan_frames storage s.now) (λ xs. done (report_of (length s.now) xs)) }
 {
@@ -71,7 +74,7 @@ fn count_frames(s: &[u8]) -> Result<Report, RefusedAt>
 
 // The report on a recording, or the refusal with its place. An entry.
 #[tactic(auto, unfolding(recordings::specs::Report::report_call, recordings::specs::Recordings::read_recording))]
-pub fn report_recording(s: &[u8]) -> Result<Report, RefusedAt>
+pub fn report_recording(s: &[u8]) -> Reported
     ensures { reported_of result ≡ report_call s.now }
 {
     if REPORT_LIMIT < s.len() {

@@ -1,36 +1,47 @@
--- A text grows in front of a buffer. Assumes nothing.
-use mathlib.Core.Path.{◌≡◌, sym, ap, ◌∙◌}
-use mathlib.Core.List.{List, [], ◌∷◌, ◌++◌, append-nil, append_assoc}
-use Prim.Native.Nat.{ℕ, suc, ◌+◌, ◌<◌, ◌≤◌}
+-- The pieces that are printed are the lines. Assumes nothing.
+use mathlib.Core.Path.{◌≡◌}
+use mathlib.Core.List.{List, [], ◌∷◌, ◌++◌, append_assoc}
+use Prim.Native.Nat.{ℕ, ◌^◌, ◌<◌}
 use native.Mathlib.Omega.{arith}
-use lib.ListN.{length, take, get_or, set}
-use lib.Seq.{take_all, take-suc, take-suc-set}
-use Rattle.report_program.specs.Text.{decimal, line}
+use Rattle.std.specs.Fmt as printed
+use Rattle.recordings.specs.Placed.{refused_at, done}
+use Rattle.recordings.specs.Report.{Report}
+use Rattle.report_program.specs.Text.{decimal, line, «format=», «octets=», «frames=», «speech=», «comfort=», «lost=», «empty=», «refusal=», «frame=», «octet=», report_text}
+use Rattle.report_program.proofs.DigitLaws.{decimal_printed}
 
--- ---- an octet at a time
+three : (l₁ d₁ l₂ d₂ l₃ d₃ : List ℕ) → l₁ ++ (d₁ ++ ((10 ∷ l₂) ++ (d₂ ++ ((10 ∷ l₃) ++ (d₃ ++ (10 ∷ []))))))
+    ≡ (l₁ ++ d₁ ++ (10 ∷ [])) ++ (l₂ ++ d₂ ++ (10 ∷ [])) ++ (l₃ ++ d₃ ++ (10 ∷ []))
+three l₁ d₁ l₂ d₂ l₃ d₃ = simp append_assoc
 
-pub put_start : (s out : List ℕ) (at : ℕ) → take (at + 0) out ≡ take at out ++ take 0 s
-put_start s out at = ap (λ n. take n out) (let e : at + 0 ≡ at = omega arith in e) ∙ sym (append-nil (take at out))
+seven : (l₁ d₁ l₂ d₂ l₃ d₃ l₄ d₄ l₅ d₅ l₆ d₆ l₇ d₇ : List ℕ)
+    → ((l₁ ++ (d₁ ++ (10 ∷ l₂))) ++ (d₂ ++ ((10 ∷ l₃) ++ (d₃ ++ (10 ∷ [])))))
+      ++ (l₄ ++ (d₄ ++ ((10 ∷ l₅) ++ (d₅ ++ ((10 ∷ l₆) ++ (d₆ ++ ((10 ∷ l₇) ++ (d₇ ++ (10 ∷ [])))))))))
+    ≡ (l₁ ++ d₁ ++ (10 ∷ [])) ++ (l₂ ++ d₂ ++ (10 ∷ [])) ++ (l₃ ++ d₃ ++ (10 ∷ [])) ++ (l₄ ++ d₄ ++ (10 ∷ [])) ++ (l₅ ++ d₅ ++ (10 ∷ []))
+      ++ (l₆ ++ d₆ ++ (10 ∷ [])) ++ (l₇ ++ d₇ ++ (10 ∷ []))
+seven l₁ d₁ l₂ d₂ l₃ d₃ l₄ d₄ l₅ d₅ l₆ d₆ l₇ d₇ = simp append_assoc
 
-pub put_step : (s front out : List ℕ) (at i : ℕ) → i < length s → at + i < length out → take (at + i) out ≡ front ++ take i s
-    → take (at + (i + 1)) (set out (at + i) (get_or s i 0)) ≡ front ++ take (i + 1) s
-put_step s front out at i l m h =
-    let v = get_or s i 0 in
-    ap (λ n. take n (set out (at + i) v)) (let e : at + (i + 1) ≡ suc (at + i) = omega arith in e)
-    ∙ take-suc-set out (at + i) v m
-    ∙ ap (λ t. t ++ (v ∷ [])) h
-    ∙ append_assoc front (take i s) (v ∷ [])
-    ∙ ap (λ t. front ++ t) (sym (take-suc s i 0 l))
-    ∙ ap (λ n. front ++ take n s) (let e : suc i ≡ i + 1 = omega arith in e)
+abbrev pub refusal_pieces : (n frame octet : ℕ) → List ℕ
+refusal_pieces n frame octet =
+    «refusal=» ++ (printed.decimal n ++ ((10 ∷ «frame=») ++ (printed.decimal frame ++ ((10 ∷ «octet=») ++ (printed.decimal octet ++ (10 ∷ []))))))
 
-pub put-end : (s front out : List ℕ) (at i : ℕ) → length s ≤ i → take (at + i) out ≡ front ++ take i s → take (at + i) out ≡ front ++ s
-put-end s front out at i l h = h ∙ ap (λ t. front ++ t) (take_all i s l)
+pub refusal_lines : (n frame octet : ℕ) → n < 2 ^ 64 → frame < 2 ^ 64 → octet < 2 ^ 64 → refusal_pieces n frame octet ≡ report_text (refused_at n frame octet)
+unfolding report_text line
+refusal_lines n frame octet a b c =
+    rw (decimal_printed n a, decimal_printed frame b, decimal_printed octet c) (three «refusal=» (decimal n) «frame=» (decimal frame) «octet=» (decimal octet))
 
--- ---- a line: its label, its number and the line feed
+-- the lines in front of the classes, and those of the classes
+abbrev pub front_pieces : Report → List ℕ
+front_pieces r = («format=» ++ (51 ∷ 10 ∷ «octets=»)) ++ (printed.decimal r.octets ++ ((10 ∷ «frames=») ++ (printed.decimal r.frames ++ (10 ∷ []))))
 
-pub line-whole : (front label number : List ℕ) (n : ℕ) → number ≡ decimal n → front ++ label ++ number ++ (10 ∷ []) ≡ front ++ line label n
-unfolding line
-line-whole front label number n e =
-    ap (λ d. front ++ label ++ d ++ (10 ∷ [])) e
-    ∙ ap (λ t. t ++ (10 ∷ [])) (append_assoc front label (decimal n))
-    ∙ append_assoc front (label ++ decimal n) (10 ∷ [])
+abbrev pub class_pieces : Report → List ℕ
+class_pieces r =
+    «speech=» ++ (printed.decimal r.speech ++ ((10 ∷ «comfort=») ++ (printed.decimal r.sid ++ ((10 ∷ «lost=») ++ (printed.decimal r.speech_lost
+    ++ ((10 ∷ «empty=») ++ (printed.decimal r.no_data ++ (10 ∷ []))))))))
+
+pub report_lines : (r : Report) → r.octets < 2 ^ 64 → r.frames < 2 ^ 64 → r.speech < 2 ^ 64 → r.sid < 2 ^ 64 → r.speech_lost < 2 ^ 64 → r.no_data < 2 ^ 64
+    → front_pieces r ++ class_pieces r ≡ report_text (done r)
+unfolding report_text line decimal
+report_lines r a b c d e f =
+    rw (decimal_printed r.octets a, decimal_printed r.frames b, decimal_printed r.speech c, decimal_printed r.sid d, decimal_printed r.speech_lost e, decimal_printed r.no_data f)
+    (seven «format=» (51 ∷ []) «octets=» (decimal r.octets) «frames=» (decimal r.frames) «speech=» (decimal r.speech) «comfort=» (decimal r.sid)
+    «lost=» (decimal r.speech_lost) «empty=» (decimal r.no_data))

@@ -4,18 +4,11 @@
 
 mod text;
 
-ghost use Rattle.std.specs.Prelude.{◌≡◌, ℕ, ◌≤◌, length};
-ghost use Rattle.report_program.specs.declared.Input.TheVariants as input;
+ghost use Rattle.std.specs.Prelude.{◌≡◌, ◌≤◌, IfOk, length};
 
-use std::io::{Read, Write};
+use std::io;
+use std::io::Read;
 use std::process::ExitCode;
-
-// What came from standard input: so many octets, or an error.
-#[derive(Clone, Copy)]
-enum Input {
-    Octets(usize),
-    Failed,
-}
 
 // One octet more than a report may have, so that a longer input is seen to be longer.
 fn input_buffer() -> [u8; 65537]
@@ -24,37 +17,31 @@ fn input_buffer() -> [u8; 65537]
     [0; 65537]
 }
 
-// Reads until the input ends or the buffer is full. A read may bring fewer octets than there are.
-fn read_input(from: &mut impl Read, buf: &mut [u8]) -> Input
-    ensures { (n : ℕ) → result ≡ input.Octets n → n ≤ length buf.new }
+// Reads until the input ends or the buffer is full, and answers how many octets came. A read may bring fewer octets than there are.
+fn read_input(from: &mut impl Read, buf: &mut [u8]) -> io::Result<usize>
+    ensures { IfOk result (λ n. n ≤ length buf.new) }
 {
-    let mut n: usize = 0;
+    let mut n = 0;
+    // A while: a read moves the place by as many octets as it brings.
     while n < buf.len() {
-        match from.read(&mut buf[n..]) {
-            Ok(0) => return Input::Octets(n),
-            Ok(more) => n += more,
-            Err(_) => return Input::Failed,
+        let more = from.read(&mut buf[n..])?;
+        if more == 0 {
+            break;
         }
+        n += more;
     }
-    Input::Octets(n)
+    Ok(n)
 }
 
 // A message on standard error and the exit status tell of a failure.
 fn main(rt: HostRuntime) -> ExitCode {
     let mut buf = input_buffer();
-    let read = read_input(&mut rt.stdin(), &mut buf);
-    let Input::Octets(n) = read else {
-        let _ = rt
-            .stderr()
-            .write_all(b"report: standard input cannot be read\n");
+    let Ok(n) = read_input(&mut rt.stdin(), &mut buf) else {
+        let _ = eprintln!(rt; "report: standard input cannot be read");
         return ExitCode::FAILURE;
     };
-    let mut out = [0u8; 256];
-    let k = text::report_text(&buf[..n], &mut out);
-    if rt.stdout().write_all(&out[..k]).is_err() {
-        let _ = rt
-            .stderr()
-            .write_all(b"report: standard output cannot be written\n");
+    if rt.print(text::report_text(&buf[..n])).is_err() {
+        let _ = eprintln!(rt; "report: standard output cannot be written");
         return ExitCode::FAILURE;
     }
     ExitCode::SUCCESS
