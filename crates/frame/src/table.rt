@@ -16,26 +16,104 @@ struct TypeRow {
     storage: usize,
 }
 
-const RESERVED: TypeRow = TypeRow { core: 0, class_a: 0, if1: 0, if2: 0, storage: 0 };
+const RESERVED: TypeRow = TypeRow {
+    core: 0,
+    class_a: 0,
+    if1: 0,
+    if2: 0,
+    storage: 0,
+};
 
 // The row of each type.
 static TYPES: [TypeRow; 16] = [
-    TypeRow { core: 132, class_a: 54, if1: 20, if2: 18, storage: 18 },
-    TypeRow { core: 177, class_a: 64, if1: 26, if2: 23, storage: 24 },
-    TypeRow { core: 253, class_a: 72, if1: 35, if2: 33, storage: 33 },
-    TypeRow { core: 285, class_a: 72, if1: 39, if2: 37, storage: 37 },
-    TypeRow { core: 317, class_a: 72, if1: 43, if2: 41, storage: 41 },
-    TypeRow { core: 365, class_a: 72, if1: 49, if2: 47, storage: 47 },
-    TypeRow { core: 397, class_a: 72, if1: 53, if2: 51, storage: 51 },
-    TypeRow { core: 461, class_a: 72, if1: 61, if2: 59, storage: 59 },
-    TypeRow { core: 477, class_a: 72, if1: 63, if2: 61, storage: 61 },
-    TypeRow { core: 40, class_a: 40, if1: 8, if2: 6, storage: 6 },
+    TypeRow {
+        core: 132,
+        class_a: 54,
+        if1: 20,
+        if2: 18,
+        storage: 18,
+    },
+    TypeRow {
+        core: 177,
+        class_a: 64,
+        if1: 26,
+        if2: 23,
+        storage: 24,
+    },
+    TypeRow {
+        core: 253,
+        class_a: 72,
+        if1: 35,
+        if2: 33,
+        storage: 33,
+    },
+    TypeRow {
+        core: 285,
+        class_a: 72,
+        if1: 39,
+        if2: 37,
+        storage: 37,
+    },
+    TypeRow {
+        core: 317,
+        class_a: 72,
+        if1: 43,
+        if2: 41,
+        storage: 41,
+    },
+    TypeRow {
+        core: 365,
+        class_a: 72,
+        if1: 49,
+        if2: 47,
+        storage: 47,
+    },
+    TypeRow {
+        core: 397,
+        class_a: 72,
+        if1: 53,
+        if2: 51,
+        storage: 51,
+    },
+    TypeRow {
+        core: 461,
+        class_a: 72,
+        if1: 61,
+        if2: 59,
+        storage: 59,
+    },
+    TypeRow {
+        core: 477,
+        class_a: 72,
+        if1: 63,
+        if2: 61,
+        storage: 61,
+    },
+    TypeRow {
+        core: 40,
+        class_a: 40,
+        if1: 8,
+        if2: 6,
+        storage: 6,
+    },
     RESERVED,
     RESERVED,
     RESERVED,
     RESERVED,
-    TypeRow { core: 0, class_a: 0, if1: 1, if2: 1, storage: 1 },
-    TypeRow { core: 0, class_a: 0, if1: 1, if2: 1, storage: 1 },
+    TypeRow {
+        core: 0,
+        class_a: 0,
+        if1: 1,
+        if2: 1,
+        storage: 1,
+    },
+    TypeRow {
+        core: 0,
+        class_a: 0,
+        if1: 1,
+        if2: 1,
+        storage: 1,
+    },
 ];
 
 // K, the bits of the core.

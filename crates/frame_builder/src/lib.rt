@@ -27,13 +27,25 @@ pub fn core_fields_good(f: Format, t: u64, i: u64, r: u64, core: &[u8]) -> bool
     requires { length core.now ≡ octets_for (core_bits t) }
     ensures { (q : ℕ) → result ≡ fields_good (format_of f) (frame_by t q i r (buffer_core core.now t)) }
 {
-    let mode = if t == SID { bits::field_at(core, SID_MODE_AT, 4) } else { 0 };
+    let mode = if t == SID {
+        bits::field_at(core, SID_MODE_AT, 4)
+    } else {
+        0
+    };
     fields_good(f, t, i, r, u64::from(mode))
 }
 
 // The tests of a building call, in document 01's order.
 #[tactic(auto, unfolding(definitions::specs::Reading::build_check))]
-fn judge(f: Format, t: u64, q: u64, i: u64, r: u64, core: &[u8], room: usize) -> Result<(FrameHeader, usize), Refusal>
+fn judge(
+    f: Format,
+    t: u64,
+    q: u64,
+    i: u64,
+    r: u64,
+    core: &[u8],
+    room: usize,
+) -> Result<(FrameHeader, usize), Refusal>
     ensures { reading_of (buffer_core core.now) result ≡ build_check (format_of f) t q i r core.now room }
 {
     if 15 < t || 1 < q {
@@ -66,7 +78,15 @@ fn judge(f: Format, t: u64, q: u64, i: u64, r: u64, core: &[u8], room: usize) ->
 }
 
 // Builds a frame from its fields and packed core: how many octets it takes. An entry.
-pub fn build(f: Format, t: u64, q: u64, i: u64, r: u64, core: &[u8], out: &mut [u8]) -> Result<usize, Refusal>
+pub fn build(
+    f: Format,
+    t: u64,
+    q: u64,
+    i: u64,
+    r: u64,
+    core: &[u8],
+    out: &mut [u8],
+) -> Result<usize, Refusal>
     ensures { IntoOutput (build_frame (format_of f) t q i r core.now (length out.old)) out.old out.new result }
 {
     let (h, n) = judge(f, t, q, i, r, core, out.len())?;

@@ -115,7 +115,12 @@ pub fn read_if1(s: &[u8]) -> Result<(FrameHeader, usize), Refusal>
 }
 
 // Puts the core of the frame at the start of `s`, whose header is `h`, packed into the buffer, if that has room. `pub` for the viewer.
-pub fn core_out(f: Format, s: &[u8], h: FrameHeader, core: &mut [u8]) -> Result<(FrameHeader, usize), Refusal>
+pub fn core_out(
+    f: Format,
+    s: &[u8],
+    h: FrameHeader,
+    core: &mut [u8],
+) -> Result<(FrameHeader, usize), Refusal>
     requires { (known h.frame_type ≡ true) × (octets (format_of f) h.frame_type ≤ length s.now) }
     ensures { IntoBuffer (into_buffer (frame_with h (core_in (format_of f) h.frame_type (bits s.now))) (length core.old)) core.old core.new result }
 {

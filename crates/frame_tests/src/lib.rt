@@ -68,7 +68,13 @@ pub fn header_good(f: Format, s: &[u8], h: FrameHeader) -> bool
 {
     let t = u64::from(h.frame_type);
     let mode = if t == SID { sid_mode(f, s) } else { 0 };
-    fields_good(f, t, u64::from(h.indication), u64::from(h.request), u64::from(mode))
+    fields_good(
+        f,
+        t,
+        u64::from(h.indication),
+        u64::from(h.request),
+        u64::from(mode),
+    )
 }
 
 // Of a SID frame the mode is at most 8. Its octets are all that it asks, and so of `header_good`.
@@ -97,7 +103,8 @@ impl FrameOctets<'_> {
     fn fill_clear(&self) -> bool
         ensures { result ≡ fill_clear (format_of self.now.format) self.now.frame_type (bits self.now.s.now) }
     {
-        bits::low_bits(self.s, self.size, fill_bits(self.format, usize::from(self.frame_type))) == 0
+        let k = fill_bits(self.format, usize::from(self.frame_type));
+        bits::low_bits(self.s, self.size, k) == 0
     }
 
     // Refusal 5's test.
@@ -136,6 +143,8 @@ impl FrameOctets<'_> {
         ensures { result ≡ crc_good (format_of self.now.format) (bits self.now.s.now) }
     {
         let t = usize::from(self.frame_type);
-        !carries_modes(self.format, t) || bits::field_at(self.s, CRC_AT, 8) == parity::crc_of(&self.s[IF1_CORE_AT..], class_a(t))
+        !carries_modes(self.format, t)
+            || bits::field_at(self.s, CRC_AT, 8)
+                == parity::crc_of(&self.s[IF1_CORE_AT..], class_a(t))
     }
 }

@@ -38,7 +38,11 @@ pub enum Reception {
 fn speech_class(good: bool) -> SpeechClass
     ensures { speech_of result ≡ speech_class good }
 {
-    if good { SpeechClass::Good } else { SpeechClass::Bad }
+    if good {
+        SpeechClass::Good
+    } else {
+        SpeechClass::Bad
+    }
 }
 
 fn sid_class(good: bool, sti: bool) -> SidClass

@@ -19,6 +19,6 @@ returns c =
     λ q.
     let a = c.args in
     c.fields_good.ensures q (buffer_core a.core.now a.t) (λ e. c.from.ensures ∙ elim c.if-t-eq-SID.branch [
-      then-t-eq-SID w ↦ w.mode-is ∙ mode-within a.core.now a.t _ e w.field_at-mode.ensures
-    | else-t-eq-SID w ↦ absurd (w.if-t-eq-SID.false e)
+      | then-t-eq-SID w ↦ w.mode-is ∙ mode-within a.core.now a.t _ e w.field_at-mode.ensures
+      | else-t-eq-SID w ↦ absurd (w.if-t-eq-SID.false e)
     ])

@@ -18,7 +18,7 @@ returns c =
     let h = c.args.h in
     let bs = bits c.args.s.now in
     rw (c.from-t.ensures, c.from.ensures, c.from-2.ensures) at
-      (c.fields_good.ensures h.quality (core_in f h.frame_type bs) (λ e. c.from-3.ensures ∙ elim c.if-t-eq-SID.branch [
-        then-t-eq-SID w ↦ w.mode-is ∙ w.sid_mode-mode.ensures ∙ ap (λ t. num 4 (drop 36 (core_in f t bs))) (sym e ∙ c.from-t.ensures)
+    (c.fields_good.ensures h.quality (core_in f h.frame_type bs) (λ e. c.from-3.ensures ∙ elim c.if-t-eq-SID.branch [
+      | then-t-eq-SID w ↦ w.mode-is ∙ w.sid_mode-mode.ensures ∙ ap (λ t. num 4 (drop 36 (core_in f t bs))) (sym e ∙ c.from-t.ensures)
       | else-t-eq-SID w ↦ absurd (w.if-t-eq-SID.false e)
-      ]))
+    ]))
