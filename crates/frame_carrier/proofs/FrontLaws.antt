@@ -189,6 +189,18 @@ space f g src out x c =
     let b = (sized g x.type v.type_known).some-octet in
     (omega (arith, ap length c.begins.laid, c.begins.size, length-take (octets f x.type) src), omega (arith, c.room), known-below x.type v.type_known, omega (arith, v.quality_bit))
 
+-- the type and the quality that the code reads there
+pub record Fronts (x : Frame) (t q : ℕ) : Type 0 where
+  pub type_is : t ≡ x.type
+  pub quality_is : q ≡ x.quality
+  pub small : (t < 16) × (q < 2)
+
+pub fronts : (f g : Format) (src out : List ℕ) (x : Frame) (t q : ℕ) → Carriable f g src x out → t ≡ type_in f (bits src) → q ≡ quality_in f (bits src) → Fronts x t q
+fronts f g src out x t q c et eq =
+    let ff = front_fields f src x (octets f x.type) c.begins in
+    let s = space f g src out x c in
+    record { type_is = et ∙ ff.0; quality_is = eq ∙ ff.1; small = (omega (arith, et, ff.0, s.2), omega (arith, eq, ff.1, s.3)) }
+
 -- ---- by the code's numbers: the type t, the quality q, the first octet o, and d after the core was moved
 
 carried_if1 : (f : Format) (r : ℕ) (x : Frame) → f ≢ if1 → carried if1 f r x ≡ with_modes r x

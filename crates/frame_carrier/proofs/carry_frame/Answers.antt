@@ -1,11 +1,10 @@
 -- `frame_carrier::carry_frame` meets its contract: the header's octets in front of the core that was moved. Assumes nothing.
 use borrow.Author.Rules.{rules}
-use mathlib.Core.Path.{refl, sym, ap, ◌∙◌}
+use mathlib.Core.Path.{refl, sym, ap}
 use native.Mathlib.Omega.{arith}
 use borrow.Author.Tests.{le-leb}
-use Rattle.definitions.specs.Frames.{octets}
 use Rattle.frame.specs.Answers.{format_of}
-use Rattle.frame_carrier.proofs.FrontLaws.{front_fields, space, if1_room, core_in_lem, first_small, indication_small, done_none, done_if1, done_if2, done_storage}
+use Rattle.frame_carrier.proofs.FrontLaws.{space, fronts, if1_room, core_in_lem, first_small, indication_small, done_none, done_if1, done_if2, done_storage}
 use Rattle.frame_carrier.proofs.carry_frame.Goals as goal
 
 pub type_in-t-requires : goal.type_in-t-requires
@@ -17,9 +16,8 @@ quality_in-q-requires c = (space (format_of c.args.c.from) (format_of c.args.c.t
 pub first_octet-first-requires : goal.first_octet-first-requires
 first_octet-first-requires c =
     let f = format_of c.args.c.from in
-    let s = space f (format_of c.args.c.to) c.args.src.now c.args.out.now c.requires.0 c.requires.1 in
-    let ff = front_fields f c.args.src.now c.requires.0 (octets f c.requires.0.type) c.requires.1.begins in
-    (omega (arith, c.type_in-t.ensures, ff.0, s.2), omega (arith, c.quality_in-q.ensures, ff.1, s.3))
+    let w = fronts f (format_of c.args.c.to) c.args.src.now c.args.out.now c.requires.0 _ _ c.requires.1 c.type_in-t.ensures c.quality_in-q.ensures in
+    w.small
 
 pub bounds-out-0 : goal.bounds-out-0
 bounds-out-0 c = (space (format_of c.args.c.from) (format_of c.args.c.to) c.args.src.now c.args.out.now c.requires.0 c.requires.1).1
@@ -29,36 +27,35 @@ returns-then-from-gt-SID c =
     λ x p.
     let a = c.args in
     let f = format_of a.c.from in
-    let ff = front_fields f a.src.now x (octets f x.type) p.begins in
-    done_none f a.c.request a.src.now a.out.now a.out.now x _ _ _ (c.type_in-t.ensures ∙ ff.0) (c.quality_in-q.ensures ∙ ff.1) (search rules) (format_of a.c.to) p
+    let w = fronts f (format_of a.c.to) a.src.now a.out.now x _ _ p c.type_in-t.ensures c.quality_in-q.ensures in
+    done_none f a.c.request a.src.now a.out.now a.out.now x _ _ _ w.type_is w.quality_is (search rules) (format_of a.c.to) p
     (omega arith) c.first_octet-first.ensures
 
 pub move_core-requires : goal.move_core-requires
 move_core-requires c =
     let f = format_of c.args.c.from in
-    let ff = front_fields f c.args.src.now c.requires.0 (octets f c.requires.0.type) c.requires.1.begins in
-    (omega arith, (c.requires.0, sym (c.type_in-t.ensures ∙ ff.0), c.requires.1))
+    let w = fronts f (format_of c.args.c.to) c.args.src.now c.args.out.now c.requires.0 _ _ c.requires.1 c.type_in-t.ensures c.quality_in-q.ensures in
+    (omega arith, (c.requires.0, sym w.type_is, c.requires.1))
 
 pub put_modes-requires : goal.put_modes-requires
 put_modes-requires c =
     let a = c.args in
     let f = format_of a.c.from in
-    let s = space f (format_of a.c.to) a.src.now a.out.now c.requires.0 c.requires.1 in
-    let ff = front_fields f a.src.now c.requires.0 (octets f c.requires.0.type) c.requires.1.begins in
-    let et = c.type_in-t.ensures ∙ ff.0 in (
+    let w = fronts f (format_of c.args.c.to) c.args.src.now c.args.out.now c.requires.0 _ _ c.requires.1 c.type_in-t.ensures c.quality_in-q.ensures in
+    (
       le-leb c.type_in-t.result 9 (omega arith),
-      omega (arith, c.quality_in-q.ensures, ff.1, s.3),
+      w.small.1,
       omega (arith, c.indication_of.ensures, indication_small c.type_in-t.result (omega arith)),
       omega (arith, a.c.mode),
-      omega (arith, if1_room f (format_of a.c.to) a.src.now a.out.now c.requires.0 _ (ap format_of c.in-If1.is) c.requires.1 et, c.move_core.auto.out),
+      omega (arith, if1_room f (format_of a.c.to) a.src.now a.out.now c.requires.0 _ (ap format_of c.in-If1.is) c.requires.1 w.type_is, c.move_core.auto.out),
     )
 
 pub bounds-src-core_at : goal.bounds-src-core_at
 bounds-src-core_at c =
     let a = c.args in
     let f = format_of a.c.from in
-    let ff = front_fields f a.src.now c.requires.0 (octets f c.requires.0.type) c.requires.1.begins in
-    core_in_lem f (format_of a.c.to) a.src.now a.out.now c.requires.0 _ _ (ap format_of c.in-If2.is) c.requires.1 (c.type_in-t.ensures ∙ ff.0) (omega arith) c.core_at.ensures.0
+    let w = fronts f (format_of c.args.c.to) c.args.src.now c.args.out.now c.requires.0 _ _ c.requires.1 c.type_in-t.ensures c.quality_in-q.ensures in
+    core_in_lem f (format_of a.c.to) a.src.now a.out.now c.requires.0 _ _ (ap format_of c.in-If2.is) c.requires.1 w.type_is (omega arith) c.core_at.ensures.0
 
 pub overflow_add-out : goal.overflow_add-out
 overflow_add-out c =
@@ -78,8 +75,8 @@ returns-in-If1 c =
     λ x p.
     let a = c.args in
     let f = format_of a.c.from in
-    let ff = front_fields f a.src.now x (octets f x.type) p.begins in
-    done_if1 f a.c.request a.src.now a.out.now c.move_core.new.out x _ c.quality_in-q.result c.first_octet-first.result (c.type_in-t.ensures ∙ ff.0) (c.quality_in-q.ensures ∙ ff.1)
+    let w = fronts f (format_of a.c.to) a.src.now a.out.now x _ _ p c.type_in-t.ensures c.quality_in-q.ensures in
+    done_if1 f a.c.request a.src.now a.out.now c.move_core.new.out x _ c.quality_in-q.result c.first_octet-first.result w.type_is w.quality_is
     (search rules) (format_of a.c.to) c.indication_of.result _ (ap format_of c.in-If1.is) p (omega arith) c.indication_of.ensures c.move_core.ensures c.put_modes.ensures
 
 pub returns-in-If2 : goal.returns-in-If2
@@ -88,8 +85,8 @@ returns-in-If2 c =
     let a = c.args in
     let f = format_of a.c.from in
     let fo = c.first_octet-first in
-    let ff = front_fields f a.src.now x (octets f x.type) p.begins in
-    done_if2 f a.c.request a.src.now a.out.now c.move_core.new.out x _ _ fo.result (c.type_in-t.ensures ∙ ff.0) (c.quality_in-q.ensures ∙ ff.1) (search rules)
+    let w = fronts f (format_of a.c.to) a.src.now a.out.now x _ _ p c.type_in-t.ensures c.quality_in-q.ensures in
+    done_if2 f a.c.request a.src.now a.out.now c.move_core.new.out x _ _ fo.result w.type_is w.quality_is (search rules)
     (format_of a.c.to) c.core_at.result _ (λ k. search rules) (ap format_of c.in-If2.is) p (omega arith) fo.ensures c.core_at.ensures.0 refl c.move_core.ensures
 
 pub returns-in-Storage : goal.returns-in-Storage
@@ -98,6 +95,6 @@ returns-in-Storage c =
     let a = c.args in
     let f = format_of a.c.from in
     let fo = c.first_octet-first in
-    let ff = front_fields f a.src.now x (octets f x.type) p.begins in
-    done_storage f a.c.request a.src.now a.out.now c.move_core.new.out x _ _ fo.result (c.type_in-t.ensures ∙ ff.0) (c.quality_in-q.ensures ∙ ff.1) (search rules)
+    let w = fronts f (format_of a.c.to) a.src.now a.out.now x _ _ p c.type_in-t.ensures c.quality_in-q.ensures in
+    done_storage f a.c.request a.src.now a.out.now c.move_core.new.out x _ _ fo.result w.type_is w.quality_is (search rules)
     (format_of a.c.to) (ap format_of c.in-Storage.is) p (omega arith) fo.ensures c.move_core.ensures
