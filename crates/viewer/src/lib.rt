@@ -94,7 +94,11 @@ impl<'a> Viewer<'a> {
 
 // The next frame, for a caller that has no viewer.
 #[tactic(auto, using(crate::proofs::NextLaws::viewed), unfolding(recordings::specs::Viewer::next_call))]
-pub fn next_of(format: u64, place: Place, rec: &[u8]) -> Result<Option<(FrameHeader, Place)>, RefusedAt>
+pub fn next_of(
+    format: u64,
+    place: Place,
+    rec: &[u8],
+) -> Result<Option<(FrameHeader, Place)>, RefusedAt>
     ensures { Nexts format place.offset place.number rec.now result }
 {
     Viewer::new(rec, Format::try_from(format)?, place).next()
@@ -108,7 +112,12 @@ pub fn view_open(format: u64, rec: &[u8]) -> Result<Place, RefusedAt>
 }
 
 // The next frame with the place behind it, its packed core put into a buffer; or the end. An entry.
-pub fn view_next(format: u64, place: Place, rec: &[u8], core: &mut [u8]) -> Result<Option<(FrameHeader, Place)>, RefusedAt>
+pub fn view_next(
+    format: u64,
+    place: Place,
+    rec: &[u8],
+    core: &mut [u8],
+) -> Result<Option<(FrameHeader, Place)>, RefusedAt>
     ensures { ViewsInto (view_call format place.offset place.number rec.now (length core.old)) (place_of place) core.old core.new result }
 {
     let f = Format::try_from(format)?;
