@@ -67,7 +67,16 @@ pub fn amrwb_build_if1(
 ) -> Answer
     ensures { FlatOutput (build_frame if1 frame_type quality indication request core.now (length out.old)) out.old out.new result }
 {
-    frame_builder::build(Format::If1, frame_type, quality, indication, request, core, out).into()
+    frame_builder::build(
+        Format::If1,
+        frame_type,
+        quality,
+        indication,
+        request,
+        core,
+        out,
+    )
+    .into()
 }
 
 pub fn amrwb_build_if2(frame_type: u64, quality: u64, core: &[u8], out: &mut [u8]) -> Answer

@@ -17,11 +17,10 @@ ghost use Rattle.answers.specs.Flat.{placed_numbers, FlatConversion, FlatOutput,
 ghost use Rattle.level_two.specs.Flat.{class_number, class_numbers, unshown, open_numbers, FlatView, report_numbers};
 ghost use Rattle.reception.specs.Classes.{reception_of};
 
-pub use level_one::{amrwb_build_if1, amrwb_build_if2};
-
 use answers::{Answer, FrameAnswer};
 use frame::table::core_octets;
 use frame::{Format, SID};
+pub use level_one::{amrwb_build_if1, amrwb_build_if2};
 use reception::{Reception, SidClass, SpeechClass};
 use recording_reader::RefusedAt;
 use viewer::Place;
