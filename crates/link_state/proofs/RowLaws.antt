@@ -4,7 +4,7 @@ use Rattle.std.proofs.Common.{List, [], map, length, length-take-le, take, take-
 use Rattle.std.proofs.lemmas.List.{set_at, take_all, take_at, map_more, map-append, length-map}
 use Rattle.std.proofs.lemmas.Bool.Decides.{nat_tests}
 use borrow.Author.Tests.{eq-eqb, le-leb}
-use Rattle.core.specs.Simd.{first_chunks}
+use Rattle.std.specs.Simd.{first_chunks}
 use Rattle.definitions.specs.Outcome.{refused, ok, unless}
 use Rattle.links.specs.declared.Combination.{Combination}
 use Rattle.links.specs.Sets.{combination, combination_good, apart, all_good, set_good}

@@ -4,7 +4,7 @@ use mathlib.Core.Bool.{true}
 use Prim.Native.Nat.{ℕ, ◌+◌, ◌-◌, ◌*◌, ◌/◌, ◌≤◌}
 use native.Mathlib.Omega.{arith}
 use lib.ListN.{length, drop}
-use Rattle.core.specs.Int.{div_ceil}
+use Rattle.std.specs.Int.{div_ceil}
 use Rattle.bits.specs.Bits.{bits, clear, octets_for}
 use Rattle.definitions.specs.Frames.{Format, known, octets}
 use Rattle.definitions.specs.Reading.{core_fill_clear}

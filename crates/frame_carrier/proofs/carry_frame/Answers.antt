@@ -41,8 +41,7 @@ pub put_modes-requires : goal.put_modes-requires
 put_modes-requires c =
     let a = c.args in
     let f = format_of a.c.from in
-    let w = fronts f (format_of c.args.c.to) c.args.src.now c.args.out.now c.requires.0 _ _ c.requires.1 c.type_in-t.ensures c.quality_in-q.ensures in
-    (
+    let w = fronts f (format_of c.args.c.to) c.args.src.now c.args.out.now c.requires.0 _ _ c.requires.1 c.type_in-t.ensures c.quality_in-q.ensures in (
       le-leb c.type_in-t.result 9 (omega arith),
       w.small.1,
       omega (arith, c.indication_of.ensures, indication_small c.type_in-t.result (omega arith)),
