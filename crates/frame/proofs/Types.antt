@@ -11,7 +11,7 @@ use Rattle.frame.specs.declared.table.TypeRow.{TypeRow}
 use Rattle.frame.specs.declared.table.TheConstants.{TYPES}
 
 abbrev pub row : ℕ → TypeRow
-row t = get_or TYPES t (record { core = 0; class_a = 0; if1 = 0; if2 = 0; storage = 0 })
+row t = get_or TYPES t (record { 0 = 0; 1 = 0; 2 = 0; 3 = 0; 4 = 0 })
 
 module _ (here there : ℕ → ℕ) where
   same : ℕ → Bool
@@ -23,22 +23,22 @@ module _ (here there : ℕ → ℕ) where
       let p = every_below_lem 16 same e t h in
       (eqb-true _ _ (and_left _ _ p), leb-true _ _ (and_right (eqb (here t) (there t)) _ p))
 
-pub core_column : (t : ℕ) → t < 16 → ((row t).core ≡ core_bits t) × ((row t).core ≤ 477)
+pub core_column : (t : ℕ) → t < 16 → ((row t).0 ≡ core_bits t) × ((row t).0 ≤ 477)
 unfolding same core_bits
-core_column = column (λ t. (row t).core) core_bits refl
+core_column = column (λ t. (row t).0) core_bits refl
 
-pub class_column : (t : ℕ) → t < 16 → ((row t).class_a ≡ class_a t) × ((row t).class_a ≤ 477)
+pub class_column : (t : ℕ) → t < 16 → ((row t).1 ≡ class_a t) × ((row t).1 ≤ 477)
 unfolding same class_a
-class_column = column (λ t. (row t).class_a) class_a refl
+class_column = column (λ t. (row t).1) class_a refl
 
-pub if1_column : (t : ℕ) → t < 16 → ((row t).if1 ≡ octets if1 t) × ((row t).if1 ≤ 477)
+pub if1_column : (t : ℕ) → t < 16 → ((row t).2 ≡ octets if1 t) × ((row t).2 ≤ 477)
 unfolding same octets
-if1_column = column (λ t. (row t).if1) (octets if1) refl
+if1_column = column (λ t. (row t).2) (octets if1) refl
 
-pub if2_column : (t : ℕ) → t < 16 → ((row t).if2 ≡ octets if2 t) × ((row t).if2 ≤ 477)
+pub if2_column : (t : ℕ) → t < 16 → ((row t).3 ≡ octets if2 t) × ((row t).3 ≤ 477)
 unfolding same octets
-if2_column = column (λ t. (row t).if2) (octets if2) refl
+if2_column = column (λ t. (row t).3) (octets if2) refl
 
-pub storage_column : (t : ℕ) → t < 16 → ((row t).storage ≡ octets storage t) × ((row t).storage ≤ 477)
+pub storage_column : (t : ℕ) → t < 16 → ((row t).4 ≡ octets storage t) × ((row t).4 ≤ 477)
 unfolding same octets
-storage_column = column (λ t. (row t).storage) (octets storage) refl
+storage_column = column (λ t. (row t).4) (octets storage) refl

@@ -8,112 +8,26 @@ ghost use Rattle.frame.specs.Rows.{fill_word};
 use crate::Format;
 
 // A row of the table: K, Class A, and the octets in IF1, IF2 and storage format.
-struct TypeRow {
-    core: usize,
-    class_a: usize,
-    if1: usize,
-    if2: usize,
-    storage: usize,
-}
+struct TypeRow(usize, usize, usize, usize, usize);
 
-const RESERVED: TypeRow = TypeRow {
-    core: 0,
-    class_a: 0,
-    if1: 0,
-    if2: 0,
-    storage: 0,
-};
-
-// The row of each type.
+// The row of each type; all 0 for the reserved ones. A static, since a constant would be built anew at each use.
 static TYPES: [TypeRow; 16] = [
-    TypeRow {
-        core: 132,
-        class_a: 54,
-        if1: 20,
-        if2: 18,
-        storage: 18,
-    },
-    TypeRow {
-        core: 177,
-        class_a: 64,
-        if1: 26,
-        if2: 23,
-        storage: 24,
-    },
-    TypeRow {
-        core: 253,
-        class_a: 72,
-        if1: 35,
-        if2: 33,
-        storage: 33,
-    },
-    TypeRow {
-        core: 285,
-        class_a: 72,
-        if1: 39,
-        if2: 37,
-        storage: 37,
-    },
-    TypeRow {
-        core: 317,
-        class_a: 72,
-        if1: 43,
-        if2: 41,
-        storage: 41,
-    },
-    TypeRow {
-        core: 365,
-        class_a: 72,
-        if1: 49,
-        if2: 47,
-        storage: 47,
-    },
-    TypeRow {
-        core: 397,
-        class_a: 72,
-        if1: 53,
-        if2: 51,
-        storage: 51,
-    },
-    TypeRow {
-        core: 461,
-        class_a: 72,
-        if1: 61,
-        if2: 59,
-        storage: 59,
-    },
-    TypeRow {
-        core: 477,
-        class_a: 72,
-        if1: 63,
-        if2: 61,
-        storage: 61,
-    },
-    TypeRow {
-        core: 40,
-        class_a: 40,
-        if1: 8,
-        if2: 6,
-        storage: 6,
-    },
-    RESERVED,
-    RESERVED,
-    RESERVED,
-    RESERVED,
-    TypeRow {
-        core: 0,
-        class_a: 0,
-        if1: 1,
-        if2: 1,
-        storage: 1,
-    },
-    TypeRow {
-        core: 0,
-        class_a: 0,
-        if1: 1,
-        if2: 1,
-        storage: 1,
-    },
+    TypeRow(132, 54, 20, 18, 18),
+    TypeRow(177, 64, 26, 23, 24),
+    TypeRow(253, 72, 35, 33, 33),
+    TypeRow(285, 72, 39, 37, 37),
+    TypeRow(317, 72, 43, 41, 41),
+    TypeRow(365, 72, 49, 47, 47),
+    TypeRow(397, 72, 53, 51, 51),
+    TypeRow(461, 72, 61, 59, 59),
+    TypeRow(477, 72, 63, 61, 61),
+    TypeRow(40, 40, 8, 6, 6),
+    TypeRow(0, 0, 0, 0, 0),
+    TypeRow(0, 0, 0, 0, 0),
+    TypeRow(0, 0, 0, 0, 0),
+    TypeRow(0, 0, 0, 0, 0),
+    TypeRow(0, 0, 1, 1, 1),
+    TypeRow(0, 0, 1, 1, 1),
 ];
 
 // K, the bits of the core.
@@ -121,7 +35,7 @@ pub fn core_bits(t: usize) -> usize
     requires { t < 16 }
     ensures { (result ≡ core_bits t) × (result ≤ 477) }
 {
-    TYPES[t].core
+    TYPES[t].0
 }
 
 // The bits of Class A.
@@ -129,19 +43,19 @@ pub fn class_a(t: usize) -> usize
     requires { t < 16 }
     ensures { (result ≡ class_a t) × (result ≤ 477) }
 {
-    TYPES[t].class_a
+    TYPES[t].1
 }
 
-// The octets of a frame; 0 for the reserved types.
+// The octets of a frame; 0 for the reserved types, as the definition has it. No Option: sums take it as it is.
 pub fn octets_of(f: Format, t: usize) -> usize
     requires { t < 16 }
     ensures { (result ≡ octets (format_of f) t) × (result ≤ 477) }
 {
-    let r = &TYPES[t];
+    let TypeRow(_, _, if1, if2, storage) = &TYPES[t];
     match f {
-        Format::If1 => r.if1,
-        Format::If2 => r.if2,
-        Format::Storage => r.storage,
+        Format::If1 => *if1,
+        Format::If2 => *if2,
+        Format::Storage => *storage,
     }
 }
 

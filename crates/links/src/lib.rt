@@ -9,7 +9,7 @@ ghost use Rattle.links.specs.ThereAndBack.{ThereAndBack};
 // How many combinations a set has at most.
 pub const PLACES: usize = 11;
 
-// No request has been forwarded: RFC 4867's number for no mode request.
+// No request has been forwarded: RFC 4867's number for no mode request. No Option: C holds the state.
 pub const NO_REQUEST: u16 = 15;
 
 // A RAB sub-flow combination (RFC), document 01's row: the frames of one type, and the bits of each sub-flow.
@@ -23,7 +23,7 @@ pub struct Combination {
     pub size3: u16,
 }
 
-// An RFC set (RFCS): the combinations in its first `count` places. No set is one without any.
+// An RFC set (RFCS): the combinations in its first `count` places. No set is one without any. No slice and no Option: C holds the state.
 #[repr(C)]
 #[derive(Clone, Copy, Default)]
 pub struct RfcSet {
