@@ -15,10 +15,9 @@ use Rattle.definitions.specs.Reading.{buffer_core, core_fill_clear, frame_of, bu
 use Rattle.definitions.proofs.Tables.{core-most}
 use Rattle.definitions.proofs.Frames.{size-layout, fields_are_good}
 use Rattle.definitions.proofs.Claims.{check_known}
-use Rattle.frame.specs.Answers.{number_of, frame_with, built_of}
+use Rattle.frame.specs.Answers.{frame_with}
 use Rattle.frame.specs.declared.FrameHeader.{FrameHeader}
-use Rattle.frame.specs.declared.Refusal.{Refusal}
-use Rattle.std.specs.Prelude.{Result, Ok, Err}
+use Rattle.std.specs.Prelude.{Ok}
 use Rattle.frame.proofs.TableLaws.{no_octets_reserved, sid-core}
 use Rattle.frame_writer.specs.Writing.{run_frame, Writable}
 use Rattle.frame_builder.specs.Output.{IntoOutput}
@@ -83,12 +82,6 @@ modes_fit f x h = let g = fields_are_good f x h in (g.indication, g.request)
 -- ---- `build`
 
 module _ (f : Format) (t q i r : ℕ) (c d₀ : List ℕ) where
-  pub refused-build : (a : Result ℕ Refusal) (e : Refusal) → a ≡ Err e → refused (number_of e) ≡ build_check f t q i r c (length d₀)
-      → IntoOutput (build_frame f t q i r c (length d₀)) d₀ d₀ a
-  refused-build a e ae er =
-      let o : refused (number_of e) ≡ build_frame f t q i r c (length d₀) = ap (λ o. and_then o (λ y. ok (layout f y.0))) er in
-      record { answer = ap built_of ae ∙ ap counted o; buffer = ap (λ o. output_after o d₀) o }
-
   module _ (h : FrameHeader) (n : ℕ) (ea : ok (frame_with h (buffer_core c h.frame_type), n) ≡ build_check f t q i r c (length d₀)) where
     x : Frame
     x = frame_with h (buffer_core c h.frame_type)

@@ -1,13 +1,8 @@
 -- `frame_builder::build` meets its contract: what is judged good is written, and nothing else. Assumes nothing.
 use Rattle.std.proofs.Common.{rules}
 use Rattle.frame.specs.Answers.{format_of}
-use Rattle.frame_builder.proofs.BuilderLaws.{refused-build, writable, built_frame}
+use Rattle.frame_builder.proofs.BuilderLaws.{writable, built_frame}
 use Rattle.frame_builder.proofs.build.Goals as goal
-
-pub returns-in_err-h : goal.returns-in_err-h
-returns-in_err-h c =
-    let a = c.args in
-    refused-build (format_of a.f) a.t a.q a.i a.r a.core.now a.out.now _ c.in_err-h.field-0.0 (search rules) c.in_err-h.ensures
 
 pub write_frame-requires : goal.write_frame-requires
 write_frame-requires c =

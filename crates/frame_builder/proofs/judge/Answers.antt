@@ -46,19 +46,12 @@ returns-then-core-div_ceil c =
     core-length_wrong (format_of a.f) a.t a.q a.i a.r a.core.now a.room (omega arith) (omega arith) (known-there _ _ _ c.if-t-gt15.false c.octets_of-n.ensures.0 c.if-n-eq0.false)
     (λ l. c.if-core-div_ceil.true (l ∙ ap octets_for (sym c.core_bits-k.ensures.0) ∙ sym (rounded _ _ c.div_ceil.ensures)))
 
-pub core_fill_clear-requires : goal.core_fill_clear-requires
-core_fill_clear-requires c =
-    (c.if-core-div_ceil.false ∙ rounded _ _ c.div_ceil.ensures, omega arith)
-
 pub returns-then-not-core_fill_clear : goal.returns-then-not-core_fill_clear
 returns-then-not-core_fill_clear c =
     let a = c.args in
     let at = goal.at.returns-then-not-core_fill_clear c in
     fill_wrong (format_of a.f) a.t a.q a.i a.r a.core.now a.room (measured_there at.Else-core-div_ceil)
     (sym (fill_there at.After-core_fill_clear) ∙ c.if-not-core_fill_clear.true)
-
-pub core_fields_good-requires : goal.core_fields_good-requires
-core_fields_good-requires c = (measured_there (goal.at.core_fields_good-requires c).Else-core-div_ceil).core-size
 
 pub returns-then-not-core_fields_good : goal.returns-then-not-core_fields_good
 returns-then-not-core_fields_good c =
