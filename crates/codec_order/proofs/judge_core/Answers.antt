@@ -19,10 +19,6 @@ returns-then-core-div_ceil c =
     let k = bits_found a.mode c.in_ok-k.k c.in_ok-k.ensures.judged in
     core_length a.mode a.core.now a.room k.0 (λ l. c.if-core-div_ceil.true (l ∙ sym (octets_found a.mode _ _ k.1 c.div_ceil.ensures)))
 
-pub core_fill_clear-requires : goal.core_fill_clear-requires
-core_fill_clear-requires c =
-    (omega (arith, c.if-core-div_ceil.false, c.div_ceil.ensures), omega (arith, c.in_ok-k.ensures.bound))
-
 pub returns-then-not-core_fill_clear : goal.returns-then-not-core_fill_clear
 returns-then-not-core_fill_clear c =
     let a = c.args in
