@@ -7,13 +7,12 @@ ghost use Rattle.links.specs.declared.Combination.{Combination};
 ghost use Rattle.links.specs.Sets.{link_type, combination_good, combinations, Key, by_rfci, by_type, has, lookup};
 ghost use Rattle.combinations.specs.Answers.{found_of};
 
+use frame::SID;
 use frame::table::core_bits;
 use links::{Combination, RfcSet};
 
-// The highest RFCI, and the types that a combination may have: 0 to 9, and 15.
+// The highest RFCI, and the type above a SID frame's that a combination may have.
 pub const HIGHEST_RFCI: u64 = 63;
-
-const SID: u8 = frame::SID as u8;
 
 pub const NO_DATA: u64 = 15;
 
@@ -23,7 +22,7 @@ pub const NO_DATA: u64 = 15;
 fn link_type(t: u8) -> bool
     ensures { result ≡ link_type t }
 {
-    t <= SID || u64::from(t) == NO_DATA
+    u64::from(t) <= SID || u64::from(t) == NO_DATA
 }
 
 #[tactic(auto, using(std::proofs::lemmas::Bool::Decides::nat_tests), unfolding(links::specs::Sets::combination_good))]

@@ -9,15 +9,15 @@ ghost use Rattle.frame.specs.Answers.{format_of};
 ghost use Rattle.core_mover.specs.Carriable.{core_at, Ends, Carriable, CoreMoved};
 
 use bit_groups::copy_by_groups;
-use frame::Format;
 use frame::table::{core_octets, if2_octets};
+use frame::{Format, IF1_CORE_AT};
 
 // The first octet that holds nothing but core.
 pub fn core_at(f: Format) -> usize
     ensures { (result ≡ core_at (format_of f)) × (result ≤ 3) }
 {
     match f {
-        Format::If1 => 3,
+        Format::If1 => IF1_CORE_AT,
         Format::If2 | Format::Storage => 1,
     }
 }

@@ -13,7 +13,7 @@ use frame::{FrameHeader, SID};
 use links::Combination;
 
 // What Down says of a frame: FQC, RFCI, the octets of each sub-flow, and the request that is forwarded, if one is.
-#[derive(Clone, Copy)]
+#[derive(Clone, Copy, Default)]
 pub struct Subflows {
     pub fqc: u8,
     pub rfci: u8,

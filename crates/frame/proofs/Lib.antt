@@ -1,3 +1,2 @@
 mod Types
 pub mod TableLaws
-mod FieldLaws

@@ -1,4 +1,4 @@
--- What the code's answers say: document 01's number and values for each case of an enum.
+-- What the code's answers say: document 01's format and number for each case of an enum, and what a `Result` of them says.
 use Rattle.std.specs.Prelude.{List, Bool, ℕ, Result, Ok, Err}
 use Rattle.definitions.specs.Outcome.{Outcome, refused, ok}
 use Rattle.definitions.specs.Frames as paper

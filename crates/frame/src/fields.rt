@@ -21,7 +21,7 @@ fn uncarried_zero(f: Format, t: usize, i: u64, r: u64) -> bool
     carries_modes(f, t) || (i == 0 && r == 0)
 }
 
-// Refusal 6's test, by the fields and, of a SID frame, its mode.
+// Refusal 6's test, by the fields and, of a SID frame, its mode; of another frame the mode doesn't count.
 #[tactic(auto, unfolding(definitions::specs::Frames::fields_good))]
 pub fn fields_good(f: Format, t: u64, i: u64, r: u64, mode: u64) -> bool
     ensures { (q : ℕ) (core : List Bool) → (t ≡ 9 → mode ≡ num 4 (drop 36 core)) → result ≡ fields_good (format_of f) (frame_by t q i r core) }

@@ -51,7 +51,7 @@ pub enum Refusal {
     SubflowBuffer = 17,
 }
 
-// A frame's fields but for the core.
+// A frame's fields but for the core, as they stand in its octets: numbers, which a reader may find out of range.
 #[derive(Clone, Copy)]
 pub struct FrameHeader {
     pub frame_type: u8,

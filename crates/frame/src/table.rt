@@ -35,7 +35,8 @@ pub fn core_bits(t: usize) -> usize
     requires { t < 16 }
     ensures { (result ≡ core_bits t) × (result ≤ 477) }
 {
-    TYPES[t].0
+    let TypeRow(core, ..) = TYPES[t];
+    core
 }
 
 // The bits of Class A.
@@ -43,7 +44,8 @@ pub fn class_a(t: usize) -> usize
     requires { t < 16 }
     ensures { (result ≡ class_a t) × (result ≤ 477) }
 {
-    TYPES[t].1
+    let TypeRow(_, class_a, ..) = TYPES[t];
+    class_a
 }
 
 // The octets of a frame; 0 for the reserved types, as the definition has it. No Option: sums take it as it is.

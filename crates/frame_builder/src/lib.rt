@@ -35,7 +35,7 @@ pub fn core_fields_good(f: Format, t: u64, i: u64, r: u64, core: &[u8]) -> bool
     fields_good(f, t, i, r, u64::from(mode))
 }
 
-// The tests of a building call, in document 01's order.
+// The tests of a building call, in document 01's order. Its numbers are no header before they are judged.
 #[tactic(auto, unfolding(definitions::specs::Reading::build_check))]
 fn judge(
     f: Format,

@@ -4,7 +4,7 @@
 
 mod conversion;
 
-ghost use Rattle.std.specs.Prelude.{◌≡◌, ◌++◌, length, drop};
+ghost use Rattle.std.specs.Prelude.{◌≡◌, ◌++◌, drop};
 ghost use Rattle.definitions.specs.Frames.{Frame, octets, layout};
 ghost use Rattle.recordings.specs.Conversion.{carried};
 ghost use Rattle.frame.specs.Answers.{format_of};

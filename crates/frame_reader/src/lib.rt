@@ -107,7 +107,7 @@ pub fn read_front(f: Format, s: &[u8]) -> Result<(FrameHeader, usize), Refusal>
     read_next(f, s)
 }
 
-// One IF1 frame, with nothing behind it. `pub` for the link's Down.
+// One IF1 frame, with nothing behind it; the count is its octets. `pub` for the link's Down.
 pub fn read_if1(s: &[u8]) -> Result<(FrameHeader, usize), Refusal>
     ensures { reading_of (λ t. core_in if1 t (bits s.now)) result ≡ read_with true if1 s.now }
 {

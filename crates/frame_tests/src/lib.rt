@@ -77,7 +77,7 @@ pub fn header_good(f: Format, s: &[u8], h: FrameHeader) -> bool
     )
 }
 
-// Of a SID frame the mode is at most 8. Its octets are all that it asks, and so of `header_good`.
+// Of a SID frame the mode is at most 8. No method of `FrameOctets`, nor is `header_good`: they ask for the octets alone.
 pub fn sid_fine(f: Format, s: &[u8], t: u8) -> bool
     requires { octets (format_of f) t ≤ length s.now }
     ensures { result ≡ true → t ≡ 9 → num 4 (drop 36 (core_in (format_of f) t (bits s.now))) ≤ 8 }
@@ -92,10 +92,10 @@ pub struct FrameOctets<'a> {
     pub s: &'a [u8],
     pub frame_type: u8,
     pub size: usize,
-    ghost type_is: { frame_type ≡ type_in (format_of format) (bits s.now) },
-    ghost type_known: { known frame_type ≡ true },
-    ghost size_is: { size ≡ octets (format_of format) frame_type },
-    ghost enough: { size ≤ length s.now },
+    pub ghost type_is: { frame_type ≡ type_in (format_of format) (bits s.now) },
+    pub ghost type_known: { known frame_type ≡ true },
+    pub ghost size_is: { size ≡ octets (format_of format) frame_type },
+    pub ghost enough: { size ≤ length s.now },
 }
 
 impl FrameOctets<'_> {

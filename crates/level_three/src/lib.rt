@@ -20,7 +20,7 @@ use link_answers::{DownNumbers, LinkAnswer, moved_answer};
 use links::Link;
 use uplink_judge::SubflowOctets;
 
-// The link.
+// ---- the link
 
 pub fn amrwb_link_fresh() -> Link
     ensures { result ≡ fresh_link }

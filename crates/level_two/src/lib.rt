@@ -3,7 +3,6 @@
 #![tactic(auto)]
 
 ghost use Rattle.std.specs.Prelude.{◌≡◌, length};
-ghost use Rattle.definitions.specs.Outcome.{refused};
 ghost use Rattle.definitions.specs.Frames.{storage, core_octets};
 ghost use Rattle.definitions.specs.Reading.{read_call, build_frame};
 ghost use Rattle.definitions.specs.Order.{to_core_call, to_row_call};

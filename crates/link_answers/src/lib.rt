@@ -1,4 +1,4 @@
-// The answers of the link's calls as numbers (include/amrwb.h), as specs/Flat.antt says. For level three's export crate.
+// The answers of the link's calls as numbers (include/amrwb.h), as specs/Flat.antt says. For level three.
 #![tactic(auto)]
 
 ghost use Rattle.std.specs.Prelude.{◌≡◌};
@@ -11,6 +11,7 @@ use downlink_flows::Subflows;
 use frame::Refusal;
 use links::Link;
 
+// Whether a call that changes the state was accepted, and the state after it. C fixes the layout, here and below.
 #[repr(C)]
 #[derive(Clone, Copy)]
 pub struct LinkAnswer {
@@ -20,6 +21,7 @@ pub struct LinkAnswer {
     pub link: Link,
 }
 
+// What Down says of a frame, and the state after it; or a refusal.
 #[repr(C)]
 #[derive(Clone, Copy)]
 pub struct DownNumbers {
@@ -35,16 +37,6 @@ pub struct DownNumbers {
     pub request: u64,
     pub link: Link,
 }
-
-// What Down says of no frame.
-const NO_SUBFLOWS: Subflows = Subflows {
-    fqc: 0,
-    rfci: 0,
-    octets1: 0,
-    octets2: 0,
-    octets3: 0,
-    forward: None,
-};
 
 // The answer of a call that changes the state `link`: the state after it is the answer's, or after a refusal `link`.
 pub fn moved_answer(link: Link, r: Result<Link, Refusal>) -> LinkAnswer
@@ -62,7 +54,7 @@ impl From<DownAnswer> for DownNumbers {
     ghost from_gives = { λ d n. n ≡ down_numbers (down_of d.answer) d.link };
 
     fn from(d: DownAnswer) -> DownNumbers {
-        let s = d.answer.unwrap_or(NO_SUBFLOWS);
+        let s = d.answer.unwrap_or_default();
         DownNumbers {
             refusal: d.answer.err().map_or(0, u64::from),
             frame: 0,

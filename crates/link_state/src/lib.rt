@@ -31,7 +31,7 @@ fn combination_in(row: &[u64; NUMBERS]) -> Option<Combination>
         size2: u16::try_from(size2).ok()?,
         size3: u16::try_from(size3).ok()?,
     };
-    if combination_good(c) { Some(c) } else { None }
+    combination_good(c).then_some(c)
 }
 
 // RFCI and type of `c` are none of those of `others`.

@@ -21,7 +21,7 @@ fn write_frames(c: Conversion, s: &[u8], out: &mut [u8])
 {
     let mut at = header_octets(c.from);
     let mut to = header_octets(c.to);
-    // Nothing, but towards storage format.
+    // Towards IF1 and IF2 this copies nothing.
     out[..to].copy_from_slice(&FILE_HEADER[..to]);
     // A while: both places move by whole frames.
     while at < s.len() {

@@ -48,7 +48,8 @@ impl Report {
     }
 }
 
-// Counts the frames behind the file header, up to the first that is refused.
+// Counts the frames behind the file header, up to the first that is refused. A loop beside `scan_frames`, which reads by `read_front`: that is for
+// the conversion alone.
 fn count_frames(s: &[u8]) -> Reported
     requires { (9 ≤ length s.now) × (length s.now ≤ report_limit) }
     ensures { reported_of result ≡ and_then_at (scan_frames storage s.now) (λ xs. done (report_of (length s.now) xs)) }

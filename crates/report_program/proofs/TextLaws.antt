@@ -2,7 +2,6 @@
 use mathlib.Core.Path.{◌≡◌}
 use mathlib.Core.List.{List, [], ◌∷◌, ◌++◌, append_assoc}
 use Prim.Native.Nat.{ℕ, ◌^◌, ◌<◌}
-use native.Mathlib.Omega.{arith}
 use Rattle.std.specs.Fmt as printed
 use Rattle.recordings.specs.Placed.{refused_at, done}
 use Rattle.recordings.specs.Report.{Report}

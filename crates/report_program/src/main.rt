@@ -4,18 +4,14 @@
 
 mod text;
 
-ghost use Rattle.std.specs.Prelude.{◌≡◌, ◌≤◌, IfOk, length};
+ghost use Rattle.std.specs.Prelude.{◌≤◌, IfOk, length};
 
 use std::io;
 use std::io::Read;
 use std::process::ExitCode;
 
 // One octet more than a report may have, so that a longer input is seen to be longer.
-fn input_buffer() -> [u8; 65537]
-    ensures { 65537 ≡ length result }
-{
-    [0; 65537]
-}
+const ROOM: usize = 65537;
 
 // Reads until the input ends or the buffer is full, and answers how many octets came. A read may bring fewer octets than there are.
 fn read_input(from: &mut impl Read, buf: &mut [u8]) -> io::Result<usize>
@@ -35,7 +31,7 @@ fn read_input(from: &mut impl Read, buf: &mut [u8]) -> io::Result<usize>
 
 // A message on standard error and the exit status tell of a failure.
 fn main(rt: HostRuntime) -> ExitCode {
-    let mut buf = input_buffer();
+    let mut buf = [0u8; ROOM];
     let Ok(n) = read_input(&mut rt.stdin(), &mut buf) else {
         let _ = eprintln!(rt; "report: standard input cannot be read");
         return ExitCode::FAILURE;

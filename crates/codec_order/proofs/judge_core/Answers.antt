@@ -1,6 +1,5 @@
 -- `codec_order::judge_core` meets its contract: each test is the definition's, and they are made in its order. Assumes nothing.
 use borrow.Author.Rules.{rules}
-use native.Mathlib.Omega.{arith}
 use mathlib.Core.Path.{◌≡◌, sym, ap, ◌∙◌}
 use Rattle.std.specs.Prelude.{Err}
 use Rattle.frame.specs.Answers.{built_of}

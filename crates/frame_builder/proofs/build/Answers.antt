@@ -1,5 +1,4 @@
 -- `frame_builder::build` meets its contract: what is judged good is written, and nothing else. Assumes nothing.
-use Rattle.std.proofs.Common.{rules}
 use Rattle.frame.specs.Answers.{format_of}
 use Rattle.frame_builder.proofs.BuilderLaws.{writable, built_frame}
 use Rattle.frame_builder.proofs.build.Goals as goal

@@ -4,14 +4,13 @@ use mathlib.Core.Bool.{true}
 use mathlib.Core.List.{List}
 use Prim.Native.Nat.{ℕ, ◌+◌, ◌-◌, ◌<◌, ◌≤◌}
 use native.Mathlib.Omega.{arith}
-use lib.ListN.{length, take, drop, length-drop}
-use lib.Seq.{length-take-le}
+use lib.ListN.{length, take, drop}
 use Rattle.bits.specs.Bits.{bits}
 use Rattle.definitions.specs.Frames.{Format, known, octets, type_in}
 use Rattle.definitions.proofs.Tables.{sized}
 use Rattle.frame.specs.Answers.{format_of}
 use Rattle.recordings.specs.Recordings.{limit}
-use Rattle.recording_writer.proofs.WriteLaws.{header_fits, header_put, header_long, Written, written_start, written-end, at_front, front_octets, front_room, part_type, part_carriable, part_written}
+use Rattle.recording_writer.proofs.WriteLaws.{header_fits, header_put, Written, written_start, written-end, at_front, front_octets, front_room, part_type, part_carriable, part_written}
 use Rattle.recording_writer.proofs.write_frames.Goals as goal
 
 -- the frame at hand: its type, and the places behind it
@@ -53,19 +52,6 @@ loop-at-init c =
     c.header_octets-at.ensures.0 c.header_octets-to.ensures.0
     (header_put (format_of a.c.to) _ _ a.out.now c.header_octets-to.ensures.0 c.copy_from_slice.ensures.after)
 
-pub type_in-t-requires : goal.type_in-t-requires
-type_in-t-requires c =
-    let a = c.args in
-    omega (arith, length-take-le (length a.s.now - c.loop-at.at) (drop c.loop-at.at a.s.now) (omega (arith, length-drop c.loop-at.at a.s.now)))
-
-pub slice_bounds-carry_frame-count : goal.slice_bounds-carry_frame-count
-slice_bounds-carry_frame-count c =
-    omega (arith, (front_room c.loop-at.invariant c.loop-at-test.true).0)
-
-pub slice_bounds-carry_frame-start : goal.slice_bounds-carry_frame-start
-slice_bounds-carry_frame-start c =
-    omega (arith, (front_room c.loop-at.invariant c.loop-at-test.true).0)
-
 pub carry_frame-requires : goal.carry_frame-requires
 carry_frame-requires c =
     let w = c.loop-at.invariant in
@@ -98,12 +84,6 @@ loop-at-preserved c =
     part_written w l c.carry_frame.new.out c.type_in-t.result c.octets_by_bits-at.result c.octets_by_bits-to.result
     (c.type_in-t.ensures ∙ part_type w l) c.octets_by_bits-at.ensures c.octets_by_bits-to.ensures
     (c.carry_frame.ensures (at_front w l).x (part_carriable w l c.requires.0))
-
-pub shape_of-out : goal.shape_of-out
-shape_of-out c =
-    let a = c.args in
-    let p = c.requires.1 in
-    c.loop-at.invariant.as_long ∙ header_long (format_of a.c.from) (format_of a.c.to) a.c.request p.0 a.out.now _ p.1.room (header_put (format_of a.c.to) _ _ a.out.now c.header_octets-to.ensures.0 c.copy_from_slice.ensures.after)
 
 pub returns : goal.returns
 returns c =

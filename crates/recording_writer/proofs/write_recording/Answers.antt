@@ -4,7 +4,7 @@ use mathlib.Core.List.{◌++◌}
 use lib.ListN.{length, drop}
 use Rattle.definitions.specs.Reading.{overwritten}
 use Rattle.frame.specs.Answers.{format_of}
-use Rattle.recording_writer.proofs.CopyLaws.{same_is, same_not, copied-whole, copied_room}
+use Rattle.recording_writer.proofs.CopyLaws.{same_is, copied-whole, copied_room}
 use Rattle.recording_writer.proofs.write_recording.Goals as goal
 
 pub slice_bounds-copy_from_slice-end : goal.slice_bounds-copy_from_slice-end
@@ -18,9 +18,6 @@ slice_bounds-copy_from_slice-end-then-eq c =
 pub copy_from_slice-requires : goal.copy_from_slice-requires
 copy_from_slice-requires c =
     sym (copied_room _ _ _ _ _ _ (λ i. (c.type_inv.s i).fits) (same_is c.args.c.from c.args.c.to (sym c.eq.ensures ∙ c.if-eq.true)) c.requires.1).1
-
-pub write_frames-requires : goal.write_frames-requires
-write_frames-requires c = (same_not c.args.c.from c.args.c.to (sym c.eq.ensures ∙ c.if-eq.false), c.requires)
 
 pub returns-then-eq : goal.returns-then-eq
 returns-then-eq c =
