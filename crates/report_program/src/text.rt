@@ -39,7 +39,8 @@ impl fmt::Display for ReportText {
 
 // The text of the report on a recording.
 pub fn report_text(s: &[u8]) -> ReportText
-    ensures { reported_of result.0 ≡ report_call s.now }
+    ensures answer { reported_of result.0 ≡ report_call s.now }
+    ensures text { ⟦<ReportText as fmt::Display>⟧.output result ≡ Some (report_text (report_call s.now)) }
 {
     ReportText(report_recording(s))
 }
