@@ -7,36 +7,30 @@ ghost use Rattle.frame.specs.Rows.{fill_word};
 
 use crate::Format;
 
-// A row of the table: K, Class A, and the octets in IF1, IF2 and storage format.
-struct TypeRow(usize, usize, usize, usize, usize);
+// The table by its columns, each with a number for every type, 0 for the reserved ones. Not by rows: the scan of a recording waits for the octets of
+// each frame, and a row's length is a number to multiply with. Statics, since a constant would be built anew at each use.
 
-// The row of each type; all 0 for the reserved ones. A static, since a constant would be built anew at each use.
-static TYPES: [TypeRow; 16] = [
-    TypeRow(132, 54, 20, 18, 18),
-    TypeRow(177, 64, 26, 23, 24),
-    TypeRow(253, 72, 35, 33, 33),
-    TypeRow(285, 72, 39, 37, 37),
-    TypeRow(317, 72, 43, 41, 41),
-    TypeRow(365, 72, 49, 47, 47),
-    TypeRow(397, 72, 53, 51, 51),
-    TypeRow(461, 72, 61, 59, 59),
-    TypeRow(477, 72, 63, 61, 61),
-    TypeRow(40, 40, 8, 6, 6),
-    TypeRow(0, 0, 0, 0, 0),
-    TypeRow(0, 0, 0, 0, 0),
-    TypeRow(0, 0, 0, 0, 0),
-    TypeRow(0, 0, 0, 0, 0),
-    TypeRow(0, 0, 1, 1, 1),
-    TypeRow(0, 0, 1, 1, 1),
+// K.
+static CORE_BITS: [usize; 16] = [
+    132, 177, 253, 285, 317, 365, 397, 461, 477, 40, 0, 0, 0, 0, 0, 0,
 ];
+
+// Class A.
+static CLASS_A: [usize; 16] = [54, 64, 72, 72, 72, 72, 72, 72, 72, 40, 0, 0, 0, 0, 0, 0];
+
+// Octets in IF1, IF2 and storage format.
+static IF1: [usize; 16] = [20, 26, 35, 39, 43, 49, 53, 61, 63, 8, 0, 0, 0, 0, 1, 1];
+
+static IF2: [usize; 16] = [18, 23, 33, 37, 41, 47, 51, 59, 61, 6, 0, 0, 0, 0, 1, 1];
+
+static STORAGE: [usize; 16] = [18, 24, 33, 37, 41, 47, 51, 59, 61, 6, 0, 0, 0, 0, 1, 1];
 
 // K, the bits of the core.
 pub fn core_bits(t: usize) -> usize
     requires { t < 16 }
     ensures { (result ≡ core_bits t) × (result ≤ 477) }
 {
-    let TypeRow(core, ..) = TYPES[t];
-    core
+    CORE_BITS[t]
 }
 
 // The bits of Class A.
@@ -44,8 +38,7 @@ pub fn class_a(t: usize) -> usize
     requires { t < 16 }
     ensures { (result ≡ class_a t) × (result ≤ 477) }
 {
-    let TypeRow(_, class_a, ..) = TYPES[t];
-    class_a
+    CLASS_A[t]
 }
 
 // The octets of a frame; 0 for the reserved types, as the definition has it. No Option: sums take it as it is.
@@ -53,11 +46,10 @@ pub fn octets_of(f: Format, t: usize) -> usize
     requires { t < 16 }
     ensures { (result ≡ octets (format_of f) t) × (result ≤ 477) }
 {
-    let TypeRow(_, _, if1, if2, storage) = &TYPES[t];
     match f {
-        Format::If1 => *if1,
-        Format::If2 => *if2,
-        Format::Storage => *storage,
+        Format::If1 => IF1[t],
+        Format::If2 => IF2[t],
+        Format::Storage => STORAGE[t],
     }
 }
 
