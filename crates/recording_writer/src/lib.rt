@@ -33,7 +33,9 @@ fn write_frames(c: Conversion, s: &[u8], out: &mut [u8])
     }
 }
 
-// Writes a recording that was read; one that keeps its format is copied.
+// Writes a recording that was read; one that keeps its format is copied. No part of its caller: an export doesn't tell the compiler that the two
+// buffers are apart, and the copies would take more time.
+#[inline(never)]
 pub fn write_recording(c: Conversion, s: &[u8], out: &mut [u8])
     requires { (xs : List Frame) × Convertible (format_of c.from) (format_of c.to) c.request s.now xs out.old }
     ensures { (xs : List Frame) → Convertible (format_of c.from) (format_of c.to) c.request s.now xs out.old → out.new ≡ overwritten (converted (format_of c.from) (format_of c.to) c.request xs) out.old }
