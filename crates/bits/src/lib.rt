@@ -61,13 +61,23 @@ fn copy_part(src: &[u8], from: usize, k: usize, dst: &mut [u8], at: usize)
     }
 }
 
+// Copies `src` to `dst`. A loop, since `copy_from_slice` calls memmove, which a host need not have. `pub` for recording_writer too.
+pub fn copy(dst: &mut [u8], src: &[u8])
+    requires { length dst.old ≡ length src.now }
+    ensures { dst.new ≡ src.now }
+{
+    for (t, d) in dst.iter_mut().enumerate() {
+        *d = src[t];
+    }
+}
+
 // Fills `dst` with octets of bits from bit `a` of `src` on. `pub` for bit_groups too.
 pub fn copy_octets(src: &[u8], a: usize, dst: &mut [u8])
     requires { (a < 8) × (8 * length dst.old + a ≤ 8 * length src.now) }
     ensures { bits dst.new ≡ take (8 * length dst.old) (drop a (bits src.now)) }
 {
     if a == 0 {
-        dst.copy_from_slice(&src[..dst.len()]);
+        copy(dst, &src[..dst.len()]);
         return;
     }
     for (t, d) in dst.iter_mut().enumerate() {

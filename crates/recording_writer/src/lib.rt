@@ -8,6 +8,7 @@ ghost use Rattle.recordings.specs.Conversion.{converted};
 ghost use Rattle.frame.specs.Answers.{format_of};
 ghost use Rattle.recording_writer.specs.Output.{Convertible};
 
+use bits::copy;
 use frame::table::octets_by_bits;
 pub use frame_carrier::Conversion;
 use frame_carrier::carry_frame;
@@ -22,7 +23,7 @@ fn write_frames(c: Conversion, s: &[u8], out: &mut [u8])
     let mut at = header_octets(c.from);
     let mut to = header_octets(c.to);
     // Towards IF1 and IF2 this copies nothing.
-    out[..to].copy_from_slice(&FILE_HEADER[..to]);
+    copy(&mut out[..to], &FILE_HEADER[..to]);
     // A while: both places move by whole frames.
     while at < s.len() {
         let front = &s[at..];
@@ -41,7 +42,7 @@ pub fn write_recording(c: Conversion, s: &[u8], out: &mut [u8])
     ensures { (xs : List Frame) → Convertible (format_of c.from) (format_of c.to) c.request s.now xs out.old → out.new ≡ overwritten (converted (format_of c.from) (format_of c.to) c.request xs) out.old }
 {
     if c.from == c.to {
-        out[..s.len()].copy_from_slice(s);
+        copy(&mut out[..s.len()], s);
     } else {
         write_frames(c, s, out);
     }

@@ -6,7 +6,7 @@ use Rattle.bits.proofs.Masks.{shifted_is}
 use Rattle.bits.proofs.copy_octets.Goals as goal
 
 pub returns-then-a-eq0 : goal.returns-then-a-eq0
-returns-then-a-eq0 c = rw c.if-a-eq0.true (ap bits c.copy_from_slice.ensures.after ∙ bits-take (length c.args.dst.now) c.args.src.now)
+returns-then-a-eq0 c = rw c.if-a-eq0.true (ap bits c.copy.ensures ∙ bits-take (length c.args.dst.now) c.args.src.now)
 
 -- what a turn stores
 octet_is : (s : List ℕ) (a t : ℕ) → Octets s → a < 8 → t < length s

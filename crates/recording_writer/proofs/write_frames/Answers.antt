@@ -32,16 +32,16 @@ module _ {f g : Format} {r : ℕ} {s d₀ d : List ℕ} {at to : ℕ} (w : Writt
       let q : m ≡ octets g (at_front w l).x.type = em ∙ ap (octets g) type_is in
       omega (arith, (front_room w l).1)
 
-pub slice_bounds-copy_from_slice-end : goal.slice_bounds-copy_from_slice-end
-slice_bounds-copy_from_slice-end c =
+pub slice_bounds-copy-end : goal.slice_bounds-copy-end
+slice_bounds-copy-end c =
     (header_fits (format_of c.args.c.from) (format_of c.args.c.to) c.args.c.request c.requires.1.0 c.args.out.now _ c.requires.1.1.room c.header_octets-to.ensures.0 c.header_octets-to.ensures.1).0
 
-pub slice_bounds-copy_from_slice-end-2 : goal.slice_bounds-copy_from_slice-end-2
-slice_bounds-copy_from_slice-end-2 c =
+pub slice_bounds-copy-end-2 : goal.slice_bounds-copy-end-2
+slice_bounds-copy-end-2 c =
     (header_fits (format_of c.args.c.from) (format_of c.args.c.to) c.args.c.request c.requires.1.0 c.args.out.now _ c.requires.1.1.room c.header_octets-to.ensures.0 c.header_octets-to.ensures.1).1
 
-pub copy_from_slice-requires : goal.copy_from_slice-requires
-copy_from_slice-requires c =
+pub copy-requires : goal.copy-requires
+copy-requires c =
     (header_fits (format_of c.args.c.from) (format_of c.args.c.to) c.args.c.request c.requires.1.0 c.args.out.now _ c.requires.1.1.room c.header_octets-to.ensures.0 c.header_octets-to.ensures.1).2
 
 pub loop-at-init : goal.loop-at-init
@@ -50,7 +50,7 @@ loop-at-init c =
     let p = c.requires.1 in
     written_start (format_of a.c.from) (format_of a.c.to) a.c.request a.s.now a.out.now _ p.0 _ _ (λ i. (c.type_inv.s i).fits) p.1.read p.1.within p.1.room
     c.header_octets-at.ensures.0 c.header_octets-to.ensures.0
-    (header_put (format_of a.c.to) _ _ a.out.now c.header_octets-to.ensures.0 c.copy_from_slice.ensures.after)
+    (header_put (format_of a.c.to) _ _ a.out.now c.header_octets-to.ensures.0 c.copy.ensures)
 
 pub carry_frame-requires : goal.carry_frame-requires
 carry_frame-requires c =
@@ -90,4 +90,4 @@ returns c =
     λ xs p.
     let a = c.args in
     written-end (format_of a.c.from) (format_of a.c.to) a.c.request a.s.now a.out.now _ c.loop-at.out c.loop-at.at c.loop-at.to xs (omega arith) c.loop-at.invariant
-    (header_put (format_of a.c.to) _ _ a.out.now c.header_octets-to.ensures.0 c.copy_from_slice.ensures.after) p.read
+    (header_put (format_of a.c.to) _ _ a.out.now c.header_octets-to.ensures.0 c.copy.ensures) p.read

@@ -7,16 +7,16 @@ use Rattle.frame.specs.Answers.{format_of}
 use Rattle.recording_writer.proofs.CopyLaws.{same_is, copied-whole, copied_room}
 use Rattle.recording_writer.proofs.write_recording.Goals as goal
 
-pub slice_bounds-copy_from_slice-end : goal.slice_bounds-copy_from_slice-end
-slice_bounds-copy_from_slice-end c =
+pub slice_bounds-copy-end : goal.slice_bounds-copy-end
+slice_bounds-copy-end c =
     (copied_room _ _ _ _ _ _ (λ i. (c.type_inv.s i).fits) (same_is c.args.c.from c.args.c.to (sym c.eq.ensures ∙ c.if-eq.true)) c.requires.1).0
 
-pub slice_bounds-copy_from_slice-end-then-eq : goal.slice_bounds-copy_from_slice-end-then-eq
-slice_bounds-copy_from_slice-end-then-eq c =
+pub slice_bounds-copy-end-then-eq : goal.slice_bounds-copy-end-then-eq
+slice_bounds-copy-end-then-eq c =
     (copied_room _ _ _ _ _ _ (λ i. (c.type_inv.s i).fits) (same_is c.args.c.from c.args.c.to (sym c.eq.ensures ∙ c.if-eq.true)) c.requires.1).1
 
-pub copy_from_slice-requires : goal.copy_from_slice-requires
-copy_from_slice-requires c =
+pub copy-requires : goal.copy-requires
+copy-requires c =
     sym (copied_room _ _ _ _ _ _ (λ i. (c.type_inv.s i).fits) (same_is c.args.c.from c.args.c.to (sym c.eq.ensures ∙ c.if-eq.true)) c.requires.1).1
 
 pub returns-then-eq : goal.returns-then-eq
@@ -24,5 +24,5 @@ returns-then-eq c =
     λ xs p.
     let a = c.args in
     let e = same_is a.c.from a.c.to (sym c.eq.ensures ∙ c.if-eq.true) in
-    ap (λ w. w ++ drop (length a.s.now) a.out.now) c.copy_from_slice.ensures.after
+    ap (λ w. w ++ drop (length a.s.now) a.out.now) c.copy.ensures
     ∙ ap (λ w. overwritten w a.out.now) (sym (copied-whole (format_of a.c.from) (format_of a.c.to) a.c.request a.s.now xs (λ i. (c.type_inv.s i).fits) e p.read))
