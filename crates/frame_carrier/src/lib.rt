@@ -29,7 +29,7 @@ pub fn carry_frame(c: Conversion, src: &[u8], out: &mut [u8])
         out[0] = first;
         return;
     }
-    move_core(c.from, c.to, t as usize, src, out);
+    move_core(c.from, c.to, usize::from(t), src, out);
     match c.to {
         Format::If1 => {
             let h = FrameHeader {

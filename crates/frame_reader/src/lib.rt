@@ -124,7 +124,7 @@ pub fn core_out(
     requires { (known h.frame_type ≡ true) × (octets (format_of f) h.frame_type ≤ length s.now) }
     ensures { IntoBuffer (into_buffer (frame_with h (core_in (format_of f) h.frame_type (bits s.now))) (length core.old)) core.old core.new result }
 {
-    let t = h.frame_type as usize;
+    let t = usize::from(h.frame_type);
     let k = core_bits(t);
     let m = k.div_ceil(8);
     if core.len() < m {

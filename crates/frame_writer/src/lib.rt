@@ -31,7 +31,7 @@ fn write_short(f: Format, h: FrameHeader, src: &[u8], from: usize, out: &mut [u8
     requires { Writable (format_of f) h src.now from out.old × (carries_modes (format_of f) h.frame_type ≡ false) }
     ensures { out.new ≡ layout (format_of f) (run_frame h src.now from) ++ drop (octets (format_of f) h.frame_type) out.old }
 {
-    let t = h.frame_type as usize;
+    let t = usize::from(h.frame_type);
     out[0] = first_octet(f, h.frame_type, h.quality);
     bits::put_run(src, from, core_bits(t), out, header_bits(f, t));
 }
@@ -42,7 +42,7 @@ pub fn put_modes(h: FrameHeader, out: &mut [u8])
     requires { (carries_modes if1 h.frame_type ≡ true) × (h.quality < 2) × (h.indication < 16) × (h.request < 16) × (octets if1 h.frame_type ≤ length out.old) }
     ensures { (front rest : List ℕ) (core : List Bool) → length front ≡ 3 → length core ≡ core_bits h.frame_type → out.old ≡ front ++ (pack core ++ rest) → out.new ≡ layout if1 (frame_with h core) ++ rest }
 {
-    let crc = parity::crc_of(&out[IF1_CORE_AT..], class_a(h.frame_type as usize));
+    let crc = parity::crc_of(&out[IF1_CORE_AT..], class_a(usize::from(h.frame_type)));
     out[0] = first_octet(Format::If1, h.frame_type, h.quality);
     out[1] = h.indication * 16 + h.request;
     out[2] = crc;
@@ -53,7 +53,7 @@ pub fn write_modes(h: FrameHeader, src: &[u8], from: usize, out: &mut [u8])
     requires { Writable if1 h src.now from out.old × (carries_modes if1 h.frame_type ≡ true) }
     ensures { out.new ≡ layout if1 (run_frame h src.now from) ++ drop (octets if1 h.frame_type) out.old }
 {
-    bits::put_run(src, from, core_bits(h.frame_type as usize), out, CORE_BIT);
+    bits::put_run(src, from, core_bits(usize::from(h.frame_type)), out, CORE_BIT);
     put_modes(h, out);
 }
 
@@ -62,7 +62,7 @@ pub fn write_frame(f: Format, h: FrameHeader, src: &[u8], from: usize, out: &mut
     requires { Writable (format_of f) h src.now from out.old }
     ensures { out.new ≡ layout (format_of f) (run_frame h src.now from) ++ drop (octets (format_of f) h.frame_type) out.old }
 {
-    if carries_modes(f, h.frame_type as usize) {
+    if carries_modes(f, usize::from(h.frame_type)) {
         write_modes(h, src, from, out);
     } else {
         write_short(f, h, src, from, out);

@@ -170,7 +170,7 @@ fn packed_octets(t: u8) -> u64
     ensures { result ≡ core_octets t }
 {
     if u64::from(t) <= SID {
-        core_octets(t as usize) as u64
+        core_octets(usize::from(t)) as u64
     } else {
         0
     }

@@ -22,7 +22,7 @@ fn gather(part: &[u16], row: &[u8]) -> u8
 {
     let mut v: u8 = 0;
     for n in part {
-        v = v * 2 + row[*n as usize];
+        v = v * 2 + row[usize::from(*n)];
     }
     v
 }
@@ -43,6 +43,6 @@ pub fn row_by(table: &[u16], core: &[u8], row: &mut [u8])
     ensures { row.new ≡ overwritten (row_octets (unordered table.now (take (length table.now) (bits core.now)))) row.old }
 {
     for (j, n) in table.iter().enumerate() {
-        row[*n as usize] = u8::from(bits::bit_at(core, j));
+        row[usize::from(*n)] = u8::from(bits::bit_at(core, j));
     }
 }

@@ -1,5 +1,4 @@
-// The CRC of a frame's Class A bits, and what is claimed of it. For the frame crate, the converters and the link; a level's
-// library never calls it directly.
+// The CRC of a frame's Class A bits, and what is claimed of it. For the crates that test and write frames.
 #![tactic(auto)]
 
 ghost use Rattle.std.specs.Prelude.{◌≡◌, ◌*◌, ◌≤◌, Bool, true, false, List, [], ◌∷◌, ◌++◌, length, take, replicate};

@@ -92,7 +92,7 @@ fn scan_frames(f: Format, g: Format, s: &[u8]) -> Result<Counts, RefusedAt>
             frame: counts.frames as u64,
             octet: at as u64,
         })?;
-        counts.octets += octets_of(g, h.frame_type as usize);
+        counts.octets += octets_of(g, usize::from(h.frame_type));
         at += n;
         counts.frames += 1;
     }

@@ -27,7 +27,7 @@ fn write_frames(c: Conversion, s: &[u8], out: &mut [u8])
     // A while: both places move by whole frames.
     while at < s.len() {
         let front = &s[at..];
-        let t = type_in(c.from, front) as usize;
+        let t = usize::from(type_in(c.from, front));
         carry_frame(c, front, &mut out[to..]);
         at += octets_by_bits(c.from, t);
         to += octets_by_bits(c.to, t);

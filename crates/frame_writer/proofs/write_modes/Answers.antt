@@ -1,5 +1,6 @@
 -- `frame_writer::write_modes` meets its contract: the core is put behind 24 bits, and the header in front of it. Assumes nothing.
 use borrow.Author.Rules.{rules}
+use mathlib.Core.Path.{ap, ◌∙◌}
 use native.Mathlib.Omega.{arith}
 use lib.ListN.{take, drop}
 use Rattle.bits.specs.Bits.{bits, Octets}
@@ -14,6 +15,7 @@ put_run-requires c =
     let t = c.args.h.frame_type in
     let p = room if1 t w.type_known in
     let m = modes_carried if1 t w.type_known c.requires.1 in
+    let k = c.core_bits.ensures.0 ∙ ap core_bits c.from.ensures in
     (omega (arith, w.core_there), omega (arith, w.room), omega (arith, w.core_near), omega arith)
 
 pub returns : goal.returns
@@ -23,5 +25,5 @@ returns c =
     let r = c.put_run in
     let k = c.core_bits in
     let o : Octets a.out.now = λ i. search rules in
-    let put = core-put a.h a.src.now a.from a.out.now w c.requires.1 r.new.dst k.result o k.ensures.0 r.ensures in
+    let put = core-put a.h a.src.now a.from a.out.now w c.requires.1 r.new.dst k.result o (k.ensures.0 ∙ ap core_bits c.from.ensures) r.ensures in
     c.put_modes.ensures (take 3 a.out.now) (drop (octets if1 a.h.frame_type) a.out.now) (take (core_bits a.h.frame_type) (drop a.from (bits a.src.now))) (three-there a.h a.src.now a.from a.out.now w c.requires.1) (core-size a.h a.src.now a.from a.out.now w c.requires.1) put

@@ -14,8 +14,9 @@ pub overflow_add-v : goal.overflow_add-v
 overflow_add-v c =
     let l = c.loop-n in
     let s = gathered _ _ l.n-index l.v (c.requires.0 l.n-index (omega arith)) c.requires.1 (omega arith) c.requires.2 l.invariant in
-    omega (arith, s.small, s.bit)
+    rw c.from.ensures (omega (arith, s.small, s.bit))
 
 pub loop-n-preserved : goal.loop-n-preserved
 loop-n-preserved c =
-    let l = c.loop-n in (gathered _ _ l.n-index l.v (c.requires.0 l.n-index (omega arith)) c.requires.1 (omega arith) c.requires.2 l.invariant).more
+    let l = c.loop-n in
+    rw c.from.ensures (gathered _ _ l.n-index l.v (c.requires.0 l.n-index (omega arith)) c.requires.1 (omega arith) c.requires.2 l.invariant).more

@@ -11,8 +11,8 @@ pub loop-j-preserved : goal.loop-j-preserved
 loop-j-preserved c =
     let l = c.loop-j in
     let k = length c.args.table.now in
-    scattered_more _ c.requires.0 _ _ c.requires.2 l.row l.j _ (omega arith)
-    (c.from.ensures ∙ byte_bit c.bit_at.result ∙ ap one_if (c.bit_at.ensures ∙ sym (get_or-take k (bits c.args.core.now) l.j _ (omega arith)))) l.invariant
+    rw c.from-in-loop-j.ensures (scattered_more _ c.requires.0 _ _ c.requires.2 l.row l.j _ (omega arith)
+    (c.from.ensures ∙ byte_bit c.bit_at.result ∙ ap one_if (c.bit_at.ensures ∙ sym (get_or-take k (bits c.args.core.now) l.j _ (omega arith)))) l.invariant)
 
 pub returns : goal.returns
 returns c =
