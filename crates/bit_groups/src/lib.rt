@@ -5,7 +5,7 @@
 ghost use Rattle.std.specs.Prelude.{◌≡◌, ℕ, ◌+◌, ◌*◌, ◌≤◌, ◌<◌, length, take, drop};
 ghost use Rattle.bits.specs.Bits.{bits};
 
-use bits::copy_octets;
+use bits::{copy, copy_octets};
 
 // Octets `at` to `at + 15` of what `copy_by_groups` copies. All are read before one is written, so that the machine can move them at once.
 // Where the first `h` octets are copied, and `at` is not past them, the first `at + 16` then are.
@@ -15,7 +15,7 @@ fn copy_group<const A: usize>(src: &[u8], dst: &mut [u8], at: usize)
 {
     let mut group = [0; 16];
     copy_octets(&src[at..], A, &mut group);
-    dst[at..at + 16].copy_from_slice(&group);
+    copy(&mut dst[at..at + 16], &group);
 }
 
 // Fills `dst` with octets of bits from bit `A` of `src` on, by groups of 16 that may begin within one another. For the conversion: no loop,

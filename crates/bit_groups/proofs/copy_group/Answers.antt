@@ -9,8 +9,8 @@ returns g c h hj e =
     let a = c.args in
     let s = a.src.now in
     let A = g.row.A in
-    let x = c.copy_from_slice.new.self in
-    let same = c.copy_from_slice.ensures.after in
+    let x = c.copy.new.dst in
+    let same = c.copy.ensures in
     let place : 8 * a.at + A ≡ A + 8 * a.at = omega arith in
     let from : drop A (bits (take (length s - a.at) (drop a.at s))) ≡ drop (8 * a.at) (drop A (bits s)) =
     ap (λ l. drop A (bits l)) (take_all (length s - a.at) (drop a.at s) (omega (arith, length-drop a.at s)))

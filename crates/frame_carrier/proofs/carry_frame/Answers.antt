@@ -1,11 +1,19 @@
 -- `frame_carrier::carry_frame` meets its contract: the header's octets in front of the core that was moved. Assumes nothing.
 use borrow.Author.Rules.{rules}
-use mathlib.Core.Path.{refl, sym, ap}
+use mathlib.Core.Path.{◌≡◌, refl, sym, ap, subst}
+use mathlib.Core.List.{List}
+use Prim.Native.Nat.{ℕ}
 use native.Mathlib.Omega.{arith}
 use borrow.Author.Tests.{le-leb}
+use Rattle.definitions.specs.Frames.{Format}
 use Rattle.frame.specs.Answers.{format_of}
+use Rattle.core_mover.specs.Carriable.{CoreMoved}
 use Rattle.frame_carrier.proofs.FrontLaws.{space, fronts, if1_room, core_in_lem, first_small, indication_small, done_none, done_if1, done_if2, done_storage}
 use Rattle.frame_carrier.proofs.carry_frame.Goals as goal
+
+-- `move_core`'s promise, of the type as a u8
+moved : {f g : Format} {n t : ℕ} {s d e : List ℕ} → n ≡ t → CoreMoved f g n s d e → CoreMoved f g t s d e
+moved {f = f} {g = g} {s = s} {d = d} {e = e} same m = subst (λ t. CoreMoved f g t s d e) same m
 
 pub type_in-t-requires : goal.type_in-t-requires
 type_in-t-requires c = (space (format_of c.args.c.from) (format_of c.args.c.to) c.args.src.now c.args.out.now c.requires.0 c.requires.1).0
@@ -35,7 +43,7 @@ pub move_core-requires : goal.move_core-requires
 move_core-requires c =
     let f = format_of c.args.c.from in
     let w = fronts f (format_of c.args.c.to) c.args.src.now c.args.out.now c.requires.0 _ _ c.requires.1 c.type_in-t.ensures c.quality_in-q.ensures in
-    (omega arith, (c.requires.0, sym w.type_is, c.requires.1))
+    rw c.from-2.ensures (omega arith, (c.requires.0, sym w.type_is, c.requires.1))
 
 pub put_modes-requires : goal.put_modes-requires
 put_modes-requires c =
@@ -76,7 +84,7 @@ returns-in-If1 c =
     let f = format_of a.c.from in
     let w = fronts f (format_of a.c.to) a.src.now a.out.now x _ _ p c.type_in-t.ensures c.quality_in-q.ensures in
     done_if1 f a.c.request a.src.now a.out.now c.move_core.new.out x _ c.quality_in-q.result c.first_octet-first.result w.type_is w.quality_is
-    (search rules) (format_of a.c.to) c.indication_of.result _ (ap format_of c.in-If1.is) p (omega arith) c.indication_of.ensures c.move_core.ensures c.put_modes.ensures
+    (search rules) (format_of a.c.to) c.indication_of.result _ (ap format_of c.in-If1.is) p (omega arith) c.indication_of.ensures (moved c.from-2.ensures c.move_core.ensures) c.put_modes.ensures
 
 pub returns-in-If2 : goal.returns-in-If2
 returns-in-If2 c =
@@ -86,7 +94,7 @@ returns-in-If2 c =
     let fo = c.first_octet-first in
     let w = fronts f (format_of a.c.to) a.src.now a.out.now x _ _ p c.type_in-t.ensures c.quality_in-q.ensures in
     done_if2 f a.c.request a.src.now a.out.now c.move_core.new.out x _ _ fo.result w.type_is w.quality_is (search rules)
-    (format_of a.c.to) c.core_at.result _ (λ k. search rules) (ap format_of c.in-If2.is) p (omega arith) fo.ensures c.core_at.ensures.0 refl c.move_core.ensures
+    (format_of a.c.to) c.core_at.result _ (λ k. search rules) (ap format_of c.in-If2.is) p (omega arith) fo.ensures c.core_at.ensures.0 refl (moved c.from-2.ensures c.move_core.ensures)
 
 pub returns-in-Storage : goal.returns-in-Storage
 returns-in-Storage c =
@@ -96,4 +104,4 @@ returns-in-Storage c =
     let fo = c.first_octet-first in
     let w = fronts f (format_of a.c.to) a.src.now a.out.now x _ _ p c.type_in-t.ensures c.quality_in-q.ensures in
     done_storage f a.c.request a.src.now a.out.now c.move_core.new.out x _ _ fo.result w.type_is w.quality_is (search rules)
-    (format_of a.c.to) (ap format_of c.in-Storage.is) p (omega arith) fo.ensures c.move_core.ensures
+    (format_of a.c.to) (ap format_of c.in-Storage.is) p (omega arith) fo.ensures (moved c.from-2.ensures c.move_core.ensures)

@@ -57,7 +57,7 @@ returns-in_err-h c =
 
 pub octets_of-requires : goal.octets_of-requires
 octets_of-requires c =
-    known-below _ (read_known false _ _ _ _ (read_there (goal.at.octets_of-requires c).In_ok-h)).0
+    rw c.from.ensures (known-below _ (read_known false _ _ _ _ (read_there (goal.at.octets_of-requires c).In_ok-h)).0)
 
 pub overflow_add-at : goal.overflow_add-at
 overflow_add-at c =
@@ -65,11 +65,11 @@ overflow_add-at c =
 
 pub loop-at-smaller : goal.loop-at-smaller
 loop-at-smaller c =
-    let k = step_there (goal.at.loop-at-smaller c).In_ok-h _ c.octets_of.ensures.0 c.octets_of.ensures.1 in omega (arith, k.0, k.1.within)
+    let k = step_there (goal.at.loop-at-smaller c).In_ok-h _ (c.octets_of.ensures.0 ∙ ap (octets (format_of c.args.g)) c.from.ensures) c.octets_of.ensures.1 in omega (arith, k.0, k.1.within)
 
 pub loop-at-preserved : goal.loop-at-preserved
 loop-at-preserved c =
-    (step_there (goal.at.loop-at-preserved c).In_ok-h _ c.octets_of.ensures.0 c.octets_of.ensures.1).1
+    (step_there (goal.at.loop-at-preserved c).In_ok-h _ (c.octets_of.ensures.0 ∙ ap (octets (format_of c.args.g)) c.from.ensures) c.octets_of.ensures.1).1
 
 pub returns : goal.returns
 returns c =

@@ -59,30 +59,30 @@ carry_frame-requires c =
 
 pub octets_by_bits-at-requires : goal.octets_by_bits-at-requires
 octets_by_bits-at-requires c =
-    type-there c.loop-at.invariant c.loop-at-test.true _ c.type_in-t.ensures
+    type-there c.loop-at.invariant c.loop-at-test.true _ (c.from-t.ensures ∙ c.type_in.ensures)
 
 pub overflow_add-at : goal.overflow_add-at
 overflow_add-at c =
-    omega (arith, at_there c.loop-at.invariant c.loop-at-test.true _ c.type_in-t.ensures _ c.octets_by_bits-at.ensures)
+    omega (arith, at_there c.loop-at.invariant c.loop-at-test.true _ (c.from-t.ensures ∙ c.type_in.ensures) _ c.octets_by_bits-at.ensures)
 
 pub octets_by_bits-to-requires : goal.octets_by_bits-to-requires
 octets_by_bits-to-requires c =
-    type-there c.loop-at.invariant c.loop-at-test.true _ c.type_in-t.ensures
+    type-there c.loop-at.invariant c.loop-at-test.true _ (c.from-t.ensures ∙ c.type_in.ensures)
 
 pub overflow_add-to : goal.overflow_add-to
 overflow_add-to c =
-    omega (arith, to_there c.loop-at.invariant c.loop-at-test.true _ c.type_in-t.ensures _ c.octets_by_bits-to.ensures)
+    omega (arith, to_there c.loop-at.invariant c.loop-at-test.true _ (c.from-t.ensures ∙ c.type_in.ensures) _ c.octets_by_bits-to.ensures)
 
 pub loop-at-smaller : goal.loop-at-smaller
 loop-at-smaller c =
-    omega (arith, at_there c.loop-at.invariant c.loop-at-test.true _ c.type_in-t.ensures _ c.octets_by_bits-at.ensures)
+    omega (arith, at_there c.loop-at.invariant c.loop-at-test.true _ (c.from-t.ensures ∙ c.type_in.ensures) _ c.octets_by_bits-at.ensures)
 
 pub loop-at-preserved : goal.loop-at-preserved
 loop-at-preserved c =
     let w = c.loop-at.invariant in
     let l = c.loop-at-test.true in
-    part_written w l c.carry_frame.new.out c.type_in-t.result c.octets_by_bits-at.result c.octets_by_bits-to.result
-    (c.type_in-t.ensures ∙ part_type w l) c.octets_by_bits-at.ensures c.octets_by_bits-to.ensures
+    part_written w l c.carry_frame.new.out c.from-t.result c.octets_by_bits-at.result c.octets_by_bits-to.result
+    (c.from-t.ensures ∙ c.type_in.ensures ∙ part_type w l) c.octets_by_bits-at.ensures c.octets_by_bits-to.ensures
     (c.carry_frame.ensures (at_front w l).x (part_carriable w l c.requires.0))
 
 pub returns : goal.returns
