@@ -11,7 +11,7 @@ ghost use Rattle.frame.specs.Answers.{built_of};
 ghost use Rattle.frame_builder.specs.Output.{IntoOutput};
 
 use frame::table::core_bits;
-use frame::{HIGHEST_MODE, Refusal};
+use frame::{Refusal, mode_numbered};
 use frame_builder::core_fill_clear;
 use order_tables::{put_core, put_row};
 use ordering::zero_or_one;
@@ -24,10 +24,8 @@ fn bits_in(mode: u64) -> Result<usize, Refusal>
     ensures judged { built_of result ≡ unless 11 (leb mode 8) (ok (core_bits mode)) }
     ensures bound { IfOk result (λ k. k ≤ 477) }
 {
-    if HIGHEST_MODE < mode {
-        return Err(Refusal::ArgumentRange);
-    }
-    Ok(core_bits(mode as usize))
+    let m = mode_numbered(mode)?;
+    Ok(core_bits(usize::from(m)))
 }
 
 // The last tests of either call, which writes `n` octets: the mode has a table, and they have room.

@@ -8,6 +8,7 @@ use lib.Dec.{eqb, leb}
 use borrow.Author.Tests.{leb-true, eqb-true}
 use Rattle.bits.proofs.BitLaws.{num-lt}
 use Rattle.bits.proofs.Tests.{and_left, and_right, given, every_below_lem}
+use Rattle.definitions.specs.Outcome.{refused, ok, unless}
 use Rattle.definitions.specs.Frames.{Format, if1, if2, storage, known, core_bits, octets, core_octets, carries_modes, header_bits, fill_bits, type_in}
 use Rattle.definitions.proofs.Tables.{known-below, sized}
 use Rattle.frame.specs.Rows.{fill_word, core_word, if2_word}
@@ -86,3 +87,12 @@ core_digit t h = eqb-true _ _ (every_below_lem 10 (size_test core_octets core_wo
 pub if2_digit : (t : ℕ) → t ≤ 9 → if2_word / 2 ^ (6 * t) % 2 ^ 6 ≡ octets if2 t
 unfolding size_test if2_word octets
 if2_digit t h = eqb-true _ _ (every_below_lem 10 (size_test (octets if2) if2_word) refl t (omega arith))
+
+-- what `octets_known` says: a type that it takes is known and has those octets, and of another it answers refusal 2
+pub type_taken : (k : Bool) (m n : ℕ) → ok n ≡ unless 2 k (ok m) → (k ≡ true) × (n ≡ m)
+type_taken true m n e = (refl, cc)
+type_taken false m n e = absurd cc
+
+pub type_refused : (k : Bool) (m x : ℕ) → refused x ≡ unless 2 k (ok m) → (k ≡ false) × (x ≡ 2)
+type_refused true m x e = absurd cc
+type_refused false m x e = (refl, cc)

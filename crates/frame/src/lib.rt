@@ -6,9 +6,10 @@
 pub mod fields;
 pub mod table;
 
-ghost use Rattle.std.specs.Prelude.{◌≡◌, cond, leb};
+ghost use Rattle.std.specs.Prelude.{◌≡◌, ◌≤◌, cond, leb, IfOk};
+ghost use Rattle.definitions.specs.Outcome.{ok, unless};
 ghost use Rattle.definitions.specs.Reading.{format_numbered};
-ghost use Rattle.frame.specs.Answers.{number_of, found_of};
+ghost use Rattle.frame.specs.Answers.{number_of, found_of, built_of};
 
 // The highest mode.
 pub const HIGHEST_MODE: u64 = 8;
@@ -81,6 +82,17 @@ impl From<Refusal> for u64 {
     fn from(e: Refusal) -> u64 {
         e as u64
     }
+}
+
+// A mode by its number, of which one that is out of range is refused.
+pub fn mode_numbered(m: u64) -> Result<u8, Refusal>
+    ensures judged { built_of result ≡ unless 11 (leb m 8) (ok m) }
+    ensures bound { IfOk result (λ n. n ≤ 8) }
+{
+    if HIGHEST_MODE < m {
+        return Err(Refusal::ArgumentRange);
+    }
+    Ok(m as u8)
 }
 
 // The mode indication of a frame that is made: its type, 0 for a SID frame.

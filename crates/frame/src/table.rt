@@ -1,11 +1,12 @@
 // The table of types. Its functions are `pub` for the crates above; they ask a type below 16. The bounds that they give beside the
 // value are what callers want of it in sums.
-ghost use Rattle.std.specs.Prelude.{◌≡◌, ◌<◌, ◌≤◌, ◌*◌, ◌/◌, ◌%◌, ◌^◌, true};
+ghost use Rattle.std.specs.Prelude.{◌≡◌, ◌<◌, ◌≤◌, ◌*◌, ◌/◌, ◌%◌, ◌^◌, true, IfOk};
+ghost use Rattle.definitions.specs.Outcome.{ok, unless};
 ghost use Rattle.definitions.specs.Frames.{if2, known, core_bits, class_a, octets, core_octets, carries_modes, header_bits, fill_bits, spare_before, spare_after};
-ghost use Rattle.frame.specs.Answers.{format_of};
+ghost use Rattle.frame.specs.Answers.{format_of, built_of};
 ghost use Rattle.frame.specs.Rows.{fill_word};
 
-use crate::Format;
+use crate::{Format, Refusal};
 
 // The table by its columns, each with a number for every type, 0 for the reserved ones. Not by rows: the scan of a recording waits for the octets of
 // each frame, and a row's length is a number to multiply with. Statics, since a constant would be built anew at each use.
@@ -51,6 +52,19 @@ pub fn octets_of(f: Format, t: usize) -> usize
         Format::If2 => IF2[t],
         Format::Storage => STORAGE[t],
     }
+}
+
+// The same for a call that refuses the reserved types.
+pub fn octets_known(f: Format, t: usize) -> Result<usize, Refusal>
+    requires { t < 16 }
+    ensures judged { built_of result ≡ unless 2 (known t) (ok (octets (format_of f) t)) }
+    ensures bound { IfOk result (λ n. n ≤ 477) }
+{
+    let n = octets_of(f, t);
+    if n == 0 {
+        return Err(Refusal::ReservedType);
+    }
+    Ok(n)
 }
 
 // The bits in front of the core.

@@ -18,7 +18,7 @@ use Rattle.definitions.proofs.Claims.{check_known}
 use Rattle.frame.specs.Answers.{frame_with}
 use Rattle.frame.specs.declared.FrameHeader.{FrameHeader}
 use Rattle.std.specs.Prelude.{Ok}
-use Rattle.frame.proofs.TableLaws.{no_octets_reserved, sid-core}
+use Rattle.frame.proofs.TableLaws.{sid-core}
 use Rattle.frame_writer.specs.Writing.{run_frame, Writable}
 use Rattle.frame_builder.specs.Output.{IntoOutput}
 
@@ -44,9 +44,9 @@ pub record Measured (t q : ℕ) (c : List ℕ) : Type 0 where
   pub core-size : length c ≡ core_octets t
 
 module _ (f : Format) (t q i r : ℕ) (c : List ℕ) (room : ℕ) where
-  pub type_reserved : t ≤ 15 → q ≤ 1 → octets f t ≡ 0 → refused 2 ≡ build_check f t q i r c room
+  pub type_reserved : t ≤ 15 → q ≤ 1 → known t ≡ false → refused 2 ≡ build_check f t q i r c room
   unfolding build_check
-  type_reserved ht hq z = rw (le-leb t 15 ht, le-leb q 1 hq, no_octets_reserved f t (omega arith) z)
+  type_reserved ht hq k = rw (le-leb t 15 ht, le-leb q 1 hq, k)
 
   pub core-length_wrong : t ≤ 15 → q ≤ 1 → known t ≡ true → (length c ≡ core_octets t → ⊥) → refused 11 ≡ build_check f t q i r c room
   unfolding build_check

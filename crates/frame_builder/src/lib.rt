@@ -9,7 +9,7 @@ ghost use Rattle.frame.specs.Answers.{format_of, reading_of};
 ghost use Rattle.frame_builder.specs.Output.{IntoOutput};
 
 use frame::fields::fields_good;
-use frame::table::{core_bits, octets_of};
+use frame::table::{core_bits, octets_known};
 use frame::{Format, FrameHeader, Refusal, SID, SID_MODE_AT};
 use frame_writer::write_frame;
 
@@ -51,10 +51,7 @@ fn judge(
     if 15 < t || 1 < q {
         return Err(Refusal::ArgumentRange);
     }
-    let n = octets_of(f, t as usize);
-    if n == 0 {
-        return Err(Refusal::ReservedType);
-    }
+    let n = octets_known(f, t as usize)?;
     let k = core_bits(t as usize);
     if core.len() != k.div_ceil(8) {
         return Err(Refusal::ArgumentRange);

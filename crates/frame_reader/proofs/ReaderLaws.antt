@@ -14,7 +14,6 @@ use Rattle.definitions.specs.Reading.{read_with}
 use Rattle.frame.specs.Answers.{format_of, frame_with}
 use Rattle.frame.specs.declared.FrameHeader.{FrameHeader}
 use Rattle.frame_tests.specs.declared.FrameOctets.{FrameOctets}
-use Rattle.frame.proofs.TableLaws.{type-below, no_octets_reserved, octets_not_reserved}
 use Rattle.definitions.proofs.Tables.{sized}
 use Rattle.definitions.proofs.Frames.{type-frame, frame_path}
 use Rattle.frame_reader.specs.Buffer.{Plain}
@@ -26,10 +25,6 @@ pub header-same : (f : Format) (bs : List Bool) (h : FrameHeader) (t : ℕ) → 
 header-same f bs h t et e =
     let same : h.frame_type ≡ t = ap (λ x. x.type) e ∙ type-frame f bs ∙ sym et in
     (same, ap (λ u. frame_with h (core_in f u bs)) same ∙ e)
-
--- a type that has octets is known
-pub known-there : (f : Format) (s : List ℕ) (t n : ℕ) → t ≡ type_in f (bits s) → n ≡ octets f t → (n ≡ 0 → ⊥) → known t ≡ true
-known-there f s t n et en z = octets_not_reserved f t (omega (arith, type-below f (bits s))) (λ e. z (en ∙ e))
 
 -- ---- the chain
 
@@ -56,12 +51,9 @@ module _ (single : Bool) (f : Format) (s : List ℕ) where
   unfolding read_with
   refuses_1 e = rw (lt-leb 1 (length s) (omega arith))
 
-  pub refuses_2 : (t n : ℕ) → 0 < length s → t ≡ type_in f (bits s) → n ≡ octets f t → n ≡ 0 → refused 2 ≡ read_with single f s
+  pub refuses_2 : (t : ℕ) → 0 < length s → t ≡ type_in f (bits s) → known t ≡ false → refused 2 ≡ read_with single f s
   unfolding read_with
-  refuses_2 t n h et en z =
-      let t16 : t < 16 = omega (arith, type-below f (bits s)) in
-      let k : known (type_in f (bits s)) ≡ false = ap known (sym et) ∙ no_octets_reserved f t t16 (sym en ∙ z) in
-      rw (le-leb 1 (length s) h, k)
+  refuses_2 t h et k = rw (le-leb 1 (length s) h, ← et, k)
 
   pub refuses_3 : (t n : ℕ) → 0 < length s → t ≡ type_in f (bits s) → known t ≡ true → n ≡ octets f t → length s < n → refused 3 ≡ read_with single f s
   unfolding read_with

@@ -9,7 +9,7 @@ ghost use Rattle.definitions.specs.Reading.{read_with, read_frame, into_buffer, 
 ghost use Rattle.frame_reader.specs.Buffer.{IntoBuffer, Fronts, Plain};
 ghost use Rattle.frame.specs.Answers.{format_of, frame_with, reading_of};
 
-use frame::table::{carries_modes, core_bits, header_bits, octets_of};
+use frame::table::{carries_modes, core_bits, header_bits, octets_known};
 use frame::{Format, FrameHeader, Refusal};
 use frame_tests::{FrameOctets, ends, header_good, quality_in, sid_fine, type_in};
 
@@ -22,10 +22,7 @@ fn front(f: Format, s: &[u8]) -> Result<FrameOctets<'_>, Refusal>
         return Err(Refusal::NoOctets);
     }
     let frame_type = type_in(f, s);
-    let size = octets_of(f, usize::from(frame_type));
-    if size == 0 {
-        return Err(Refusal::ReservedType);
-    }
+    let size = octets_known(f, usize::from(frame_type))?;
     if s.len() < size {
         return Err(Refusal::TooShort);
     }
@@ -70,7 +67,7 @@ fn plain(f: Format, s: &[u8]) -> Option<usize>
         return None;
     }
     let x = front(f, s).ok()?;
-    (x.spare_clear() && sid_fine(f, s, x.frame_type)).then_some(x.size)
+    (x.spare_clear() && sid_fine(f, s, usize::from(x.frame_type))).then_some(x.size)
 }
 
 fn plain_front(f: Format, s: &[u8]) -> Option<usize>

@@ -78,11 +78,11 @@ pub fn header_good(f: Format, s: &[u8], h: FrameHeader) -> bool
 }
 
 // Of a SID frame the mode is at most 8. No method of `FrameOctets`, nor is `header_good`: they ask for the octets alone.
-pub fn sid_fine(f: Format, s: &[u8], t: u8) -> bool
+pub fn sid_fine(f: Format, s: &[u8], t: usize) -> bool
     requires { octets (format_of f) t ≤ length s.now }
     ensures { result ≡ true → t ≡ 9 → num 4 (drop 36 (core_in (format_of f) t (bits s.now))) ≤ 8 }
 {
-    u64::from(t) != SID || u64::from(sid_mode(f, s)) <= HIGHEST_MODE
+    t as u64 != SID || u64::from(sid_mode(f, s)) <= HIGHEST_MODE
 }
 
 // A frame that stands whole at the start of the octets `s`: of a known type, and with all its octets there.

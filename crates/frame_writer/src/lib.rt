@@ -53,7 +53,13 @@ pub fn write_modes(h: FrameHeader, src: &[u8], from: usize, out: &mut [u8])
     requires { Writable if1 h src.now from out.old × (carries_modes if1 h.frame_type ≡ true) }
     ensures { out.new ≡ layout if1 (run_frame h src.now from) ++ drop (octets if1 h.frame_type) out.old }
 {
-    bits::put_run(src, from, core_bits(usize::from(h.frame_type)), out, CORE_BIT);
+    bits::put_run(
+        src,
+        from,
+        core_bits(usize::from(h.frame_type)),
+        out,
+        CORE_BIT,
+    );
     put_modes(h, out);
 }
 

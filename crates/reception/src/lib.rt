@@ -5,7 +5,7 @@ ghost use Rattle.std.specs.Prelude.{◌≡◌};
 ghost use Rattle.definitions.specs.Reception.{speech_class, sid_class, class_of, reception_class};
 ghost use Rattle.reception.specs.Classes.{speech_of, sid_of, reception_of, classified_of};
 
-use frame::table::octets_of;
+use frame::table::octets_known;
 use frame::{Format, Refusal, SID};
 
 // Types 0 to 8 are speech.
@@ -75,8 +75,7 @@ pub fn reception_class(t: u64, q: u64, sti: u64) -> Result<Reception, Refusal>
     if 15 < t || 1 < q || 1 < sti {
         return Err(Refusal::ArgumentRange);
     }
-    if octets_of(Format::If2, t as usize) == 0 {
-        return Err(Refusal::ReservedType);
-    }
+    // In any format: a type is reserved in all.
+    octets_known(Format::If2, t as usize)?;
     Ok(class_of(t, q == 1, sti == 1))
 }
