@@ -1,6 +1,6 @@
 // Octets as bits: reading a bit or a field, and putting a run of bits in any place, with shifts and masks and whole octets at a
 // time. Every crate above packs and unpacks through this one: frames, sub-flows, payloads. Its public functions are `pub` for
-// those crates; each asks what their callers have shown.
+// those crates; each asks what their callers have shown. Casts to u8 are of what a mask has left.
 #![tactic(auto)]
 
 ghost use Rattle.std.specs.Prelude.{◌≡◌, ◌++◌, false, ◌+◌, ◌-◌, ◌*◌, ◌%◌, ◌≤◌, ◌<◌, ◌^◌, length, get_or, take, drop, replicate};
@@ -71,7 +71,8 @@ pub fn copy(dst: &mut [u8], src: &[u8])
     }
 }
 
-// Fills `dst` with octets of bits from bit `a` of `src` on. `pub` for bit_groups too.
+// Fills `dst` with octets of bits from bit `a` of `src` on. `pub` for bit_groups too. That `a` is below 8 is asked here and there: a number that a caller
+// divides, or a constant, holds no fact.
 pub fn copy_octets(src: &[u8], a: usize, dst: &mut [u8])
     requires { (a < 8) × (8 * length dst.old + a ≤ 8 * length src.now) }
     ensures { bits dst.new ≡ take (8 * length dst.old) (drop a (bits src.now)) }

@@ -1,5 +1,5 @@
 // Codec order: the codec's bits, one octet of 0 or 1 for each, put in the order of the core frame and back. `order_to_core` and
-// `order_to_row` are entries.
+// `order_to_row` are entries. Mode, source and target are what the call is handed; they are no struct, of which the target would be lent out.
 #![tactic(auto)]
 
 ghost use Rattle.std.specs.Prelude.{◌≡◌, ◌≤◌, IfOk, leb, length};
@@ -55,7 +55,7 @@ fn judge_row(mode: u64, row: &[u8], room: usize) -> Result<usize, Refusal>
     octets_written(mode, k.div_ceil(8), room)
 }
 
-// The same of the call from core to row.
+// The same of the call from core to row. Two functions: what they share is `bits_in` and `octets_written`.
 fn judge_core(mode: u64, core: &[u8], room: usize) -> Result<usize, Refusal>
     ensures { built_of result ≡ counted (to_row_call mode core.now room) }
 {

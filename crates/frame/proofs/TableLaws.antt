@@ -1,17 +1,16 @@
 -- What the code's table says of a type that is read or given: whether it is reserved, and how its octets are filled. Assumes nothing.
 use mathlib.Core.Path.{◌≡◌, refl, ap}
-use mathlib.Core.Bool.{Bool, true, false, not, ◌&&◌, ◌||◌, cond}
+use mathlib.Core.Bool.{Bool, true, false, not, ◌||◌, cond}
 use mathlib.Core.List.{List}
-use Prim.Native.Nat.{ℕ, ◌+◌, ◌*◌, ◌/◌, ◌%◌, ◌^◌, ◌<◌, ◌≤◌}
+use Prim.Native.Nat.{ℕ, ◌+◌, ◌*◌, ◌<◌, ◌≤◌}
 use native.Mathlib.Omega.{arith}
 use lib.Dec.{eqb, leb}
 use borrow.Author.Tests.{leb-true, eqb-true}
 use Rattle.bits.proofs.BitLaws.{num-lt}
-use Rattle.bits.proofs.Tests.{and_left, and_right, given, every_below_lem}
+use Rattle.bits.proofs.Tests.{given, every_below_lem}
 use Rattle.definitions.specs.Outcome.{refused, ok, unless}
-use Rattle.definitions.specs.Frames.{Format, if1, if2, storage, known, core_bits, octets, core_octets, carries_modes, header_bits, fill_bits, type_in}
+use Rattle.definitions.specs.Frames.{Format, if1, if2, storage, known, core_bits, octets, carries_modes, header_bits, type_in}
 use Rattle.definitions.proofs.Tables.{known-below, sized}
-use Rattle.frame.specs.Rows.{fill_word, core_word, if2_word}
 
 -- a type without octets is reserved
 reserved_test : Format → ℕ → Bool
@@ -62,31 +61,6 @@ sid-core = refl
 pub sid-known : known 9 ≡ true
 unfolding known
 sid-known = refl
-
--- a digit of `fill_word`
-fill_test : Format → ℕ → Bool
-fill_test f t = eqb (fill_word f / 2 ^ (4 * t) % 2 ^ 4) (fill_bits f t) && leb (fill_bits f t) 7
-
-pub fill_digit : (f : Format) (t : ℕ) → known t ≡ true → (fill_word f / 2 ^ (4 * t) % 2 ^ 4 ≡ fill_bits f t) × (fill_bits f t ≤ 7)
-unfolding fill_test fill_word octets core_bits
-fill_digit f t k = (eqb-true _ _ (and_left _ _ (tested f)), leb-true _ _ (and_right (eqb (fill_word f / 2 ^ (4 * t) % 2 ^ 4) (fill_bits f t)) _ (tested f)))
-  where
-    tested : (f : Format) → fill_test f t ≡ true
-    tested if1 = every_below_lem 16 (fill_test if1) refl t (known-below t k)
-    tested if2 = every_below_lem 16 (fill_test if2) refl t (known-below t k)
-    tested storage = every_below_lem 16 (fill_test storage) refl t (known-below t k)
-
--- a digit of `core_word`, and one of `if2_word`
-size_test : (ℕ → ℕ) → ℕ → ℕ → Bool
-size_test of w t = eqb (w / 2 ^ (6 * t) % 2 ^ 6) (of t)
-
-pub core_digit : (t : ℕ) → t ≤ 9 → core_word / 2 ^ (6 * t) % 2 ^ 6 ≡ core_octets t
-unfolding size_test core_word core_bits
-core_digit t h = eqb-true _ _ (every_below_lem 10 (size_test core_octets core_word) refl t (omega arith))
-
-pub if2_digit : (t : ℕ) → t ≤ 9 → if2_word / 2 ^ (6 * t) % 2 ^ 6 ≡ octets if2 t
-unfolding size_test if2_word octets
-if2_digit t h = eqb-true _ _ (every_below_lem 10 (size_test (octets if2) if2_word) refl t (omega arith))
 
 -- what `octets_known` says: a type that it takes is known and has those octets, and of another it answers refusal 2
 pub type_taken : (k : Bool) (m n : ℕ) → ok n ≡ unless 2 k (ok m) → (k ≡ true) × (n ≡ m)

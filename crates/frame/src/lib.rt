@@ -52,7 +52,8 @@ pub enum Refusal {
     SubflowBuffer = 17,
 }
 
-// A frame's fields but for the core, as they stand in its octets: numbers, which a reader may find out of range.
+// A frame's fields but for the core, as they stand in its octets: numbers, and no bool or mode. A reader may find indication and request out of range;
+// type and quality are put back by shifts, and go to C.
 #[derive(Clone, Copy)]
 pub struct FrameHeader {
     pub frame_type: u8,

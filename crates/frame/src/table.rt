@@ -1,15 +1,16 @@
-// The table of types. Its functions are `pub` for the crates above; they ask a type below 16. The bounds that they give beside the
-// value are what callers want of it in sums.
+// The table of types. Its functions are `pub` for the crates above; they ask a type below 16. No struct holds that bound, or format and type
+// together: `header_bits` and `carries_modes` ask nothing of a type, and would then ask it. The bounds that they give beside the value are what
+// callers want of it in sums. A function that gives a number for each format is a match of its own: one over all would be no shorter.
 ghost use Rattle.std.specs.Prelude.{◌≡◌, ◌<◌, ◌≤◌, ◌*◌, ◌/◌, ◌%◌, ◌^◌, true, IfOk};
 ghost use Rattle.definitions.specs.Outcome.{ok, unless};
 ghost use Rattle.definitions.specs.Frames.{if2, known, core_bits, class_a, octets, core_octets, carries_modes, header_bits, fill_bits, spare_before, spare_after};
 ghost use Rattle.frame.specs.Answers.{format_of, built_of};
-ghost use Rattle.frame.specs.Rows.{fill_word};
 
 use crate::{Format, Refusal};
 
-// The table by its columns, each with a number for every type, 0 for the reserved ones. Not by rows: the scan of a recording waits for the octets of
-// each frame, and a row's length is a number to multiply with. Statics, since a constant would be built anew at each use.
+// The table by its columns, as the papers print it, each with a number for every type, 0 for the reserved ones. Not by rows: each function reads one
+// column, a struct for each of 16 types is no plainer, and the scan of a recording, which waits for the octets of each frame, took a thirtieth more time by
+// rows (a row's length is a number to multiply with). Statics, since a constant would be built anew at each use.
 
 // K.
 static CORE_BITS: [usize; 16] = [
@@ -25,6 +26,11 @@ static IF1: [usize; 16] = [20, 26, 35, 39, 43, 49, 53, 61, 63, 8, 0, 0, 0, 0, 1,
 static IF2: [usize; 16] = [18, 23, 33, 37, 41, 47, 51, 59, 61, 6, 0, 0, 0, 0, 1, 1];
 
 static STORAGE: [usize; 16] = [18, 24, 33, 37, 41, 47, 51, 59, 61, 6, 0, 0, 0, 0, 1, 1];
+
+// The filling bits behind the core in IF1 and storage format, and in IF2.
+static FILL: [usize; 16] = [4, 7, 3, 3, 3, 3, 3, 3, 3, 0, 0, 0, 0, 0, 0, 0];
+
+static IF2_FILL: [usize; 16] = [7, 2, 6, 6, 6, 6, 6, 6, 6, 3, 0, 0, 0, 0, 3, 3];
 
 // K, the bits of the core.
 pub fn core_bits(t: usize) -> usize
@@ -42,7 +48,7 @@ pub fn class_a(t: usize) -> usize
     CLASS_A[t]
 }
 
-// The octets of a frame; 0 for the reserved types, as the definition has it. No Option: sums take it as it is.
+// The octets of a frame; 0 for the reserved types, as the definition has it. No Option: a conversion's sum takes it as it is.
 pub fn octets_of(f: Format, t: usize) -> usize
     requires { t < 16 }
     ensures { (result ≡ octets (format_of f) t) × (result ≤ 477) }
@@ -87,45 +93,23 @@ pub fn octets_by_bits(f: Format, t: usize) -> usize
     (header_bits(f, t) + core_bits(t) + 7) / 8
 }
 
-// The number of type `t` in a word of one number of `width` bits for each type, type 0 in the lowest. By shifts, since the scan of a recording asks
-// such numbers for every frame, and what comes of a `match` would become a jump for each type.
-fn digit(word: u64, width: usize, t: usize) -> usize
-    requires { (width ≤ 6) × (width * t < 64) }
-    ensures { result ≡ word / 2 ^ (width * t) % 2 ^ width }
-{
-    ((word >> (width * t)) & ((1u64 << width) - 1)) as usize
-}
-
-// The filling bits of every type's frames, four bits for each.
-#[tactic(auto, unfolding(crate::specs::Rows::fill_word, definitions::specs::Frames::core_bits, definitions::specs::Frames::octets))]
-fn fill_word(f: Format) -> u64
-    ensures { result ≡ fill_word (format_of f) }
-{
-    match f {
-        Format::If1 | Format::Storage => 0x0000_0003_3333_3374,
-        Format::If2 => 0x3300_0036_6666_6627,
-    }
-}
-
 // The filling bits behind the core.
 pub fn fill_bits(f: Format, t: usize) -> usize
     requires { known t ≡ true }
     ensures { (result ≡ fill_bits (format_of f) t) × (result ≤ 7) }
 {
-    digit(fill_word(f), 4, t)
+    match f {
+        Format::If1 | Format::Storage => FILL[t],
+        Format::If2 => IF2_FILL[t],
+    }
 }
-
-// The octets of the packed core of each type that has one, and those of its frame in IF2, six bits for each.
-const CORE_WORD: u64 = 0x017c_eb2b_a892_05d1;
-
-const IF2_WORD: u64 = 0x01bd_ef3b_e996_15d2;
 
 // The octets of the packed core, of a type that has one.
 pub fn core_octets(t: usize) -> usize
     requires { t ≤ 9 }
     ensures { result ≡ core_octets t }
 {
-    digit(CORE_WORD, 6, t)
+    (core_bits(t) + 7) / 8
 }
 
 // The octets in IF2, of a type that has a core.
@@ -133,7 +117,7 @@ pub fn if2_octets(t: usize) -> usize
     requires { t ≤ 9 }
     ensures { result ≡ octets if2 t }
 {
-    digit(IF2_WORD, 6, t)
+    IF2[t]
 }
 
 // Whether a frame carries indication, request and CRC.

@@ -22,7 +22,7 @@ pub fn core_fill_clear(core: &[u8], k: usize) -> bool
     n == 0 || bits::low_bits(core, n, 8 * n - k) == 0
 }
 
-// Refusal 6's test of a frame to be built. `pub` for Up.
+// Refusal 6's test of a frame to be built. `pub` for Up. Not one function with frame_tests' `header_good`: each knows where its SID mode stands.
 pub fn core_fields_good(f: Format, t: u64, i: u64, r: u64, core: &[u8]) -> bool
     requires { length core.now ≡ octets_for (core_bits t) }
     ensures { (q : ℕ) → result ≡ fields_good (format_of f) (frame_by t q i r (buffer_core core.now t)) }
@@ -35,7 +35,7 @@ pub fn core_fields_good(f: Format, t: u64, i: u64, r: u64, core: &[u8]) -> bool
     fields_good(f, t, i, r, u64::from(mode))
 }
 
-// The tests of a building call, in document 01's order. Its numbers are no header before they are judged.
+// The tests of a building call, in document 01's order. Its numbers are no header before they are judged, and then the casts lose nothing.
 #[tactic(auto, unfolding(definitions::specs::Reading::build_check))]
 fn judge(
     f: Format,

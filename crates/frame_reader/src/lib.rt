@@ -35,7 +35,7 @@ fn front(f: Format, s: &[u8]) -> Result<FrameOctets<'_>, Refusal>
 }
 
 // The tests in document 01's order. A part of each caller, so that the compiler makes those of Down, which knows the format, without asking it:
-// with one `judge` that all share, Down of a SID frame takes a third more time.
+// with one `judge` that all share, Down of a SID frame takes a third more time. `single` says whether one more test counts: no closure.
 #[inline(always)]
 fn judge(single: bool, f: Format, s: &[u8]) -> Result<(FrameHeader, usize), Refusal>
     ensures { reading_of (λ t. core_in (format_of f) t (bits s.now)) result ≡ read_with single (format_of f) s.now }

@@ -1,5 +1,6 @@
 // The tests of reading one frame, each of document 01's order one function whose answer equals the definition's test. The `pub` functions are
-// for frame_reader and the crates that go over recordings.
+// for frame_reader and the crates that go over recordings. Format and octets go side by side until a frame is known to stand there whole: from
+// there on a `FrameOctets` holds them. Where one octet alone is asked, that is what a function asks for.
 #![tactic(auto)]
 
 ghost use Rattle.std.specs.Prelude.{◌≡◌, true, not, ◌&&◌, ◌||◌, cond, ◌+◌, ◌<◌, ◌≤◌, leb, length, drop};
@@ -18,7 +19,7 @@ const REQUEST_AT: usize = 12;
 
 const CRC_AT: usize = 16;
 
-// The type that the first octet names.
+// The type that the first octet names. Not one function with `quality_in`: what they share is a shift.
 pub fn type_in(f: Format, s: &[u8]) -> u8
     requires { 0 < length s.now }
     ensures { result ≡ type_in (format_of f) (bits s.now) }
@@ -34,7 +35,7 @@ pub fn quality_in(f: Format, s: &[u8]) -> u8
     (s[0] >> (3 - spare_before(f))) & 1
 }
 
-// Nothing stands behind a single frame.
+// Nothing stands behind a single frame. A flag and no closure: it says whether this one test counts.
 pub fn ends(single: bool, len: usize, n: usize) -> bool
     ensures { result ≡ (not single || leb len n) }
 {
@@ -85,7 +86,8 @@ pub fn sid_fine(f: Format, s: &[u8], t: usize) -> bool
     t as u64 != SID || u64::from(sid_mode(f, s)) <= HIGHEST_MODE
 }
 
-// A frame that stands whole at the start of the octets `s`: of a known type, and with all its octets there.
+// A frame that stands whole at the start of the octets `s`: of a known type, and with all its octets there. `s` is not cut to them: the definitions
+// read what is there.
 #[derive(Clone, Copy)]
 pub struct FrameOctets<'a> {
     pub format: Format,
@@ -114,7 +116,7 @@ impl FrameOctets<'_> {
         first_clear(self.format, self.s) && self.fill_clear()
     }
 
-    // The mode that stands at bit `from`, 0 where the frame carries none.
+    // The mode that stands at bit `from`, 0 where the frame carries none, as the definition has it.
     fn mode_in(&self, from: usize) -> u8
         requires { from < 16 }
         ensures { result ≡ cond (carries_modes (format_of self.now.format) self.now.frame_type) (num 4 (drop from (bits self.now.s.now))) 0 }

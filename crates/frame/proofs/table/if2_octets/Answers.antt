@@ -1,10 +1,7 @@
--- `table::if2_octets` meets its contract: the digit of its type. Assumes nothing.
-use mathlib.Core.Path.{◌∙◌}
-use Rattle.definitions.specs.Frames.{octets}
-use Rattle.frame.specs.Rows.{if2_word}
-use Rattle.frame.proofs.TableLaws.{if2_digit}
+-- `table::if2_octets` meets its contract: it is a column of the table. Assumes nothing.
+use native.Mathlib.Omega.{arith}
+use Rattle.frame.proofs.Types.{if2_column}
 use Rattle.frame.proofs.table.if2_octets.Goals as goal
 
 pub returns : goal.returns
-unfolding if2_word octets
-returns c = c.digit.ensures ∙ if2_digit c.args.t c.requires
+returns c = (if2_column c.args.t (omega arith)).0
