@@ -2,22 +2,18 @@
 use mathlib.Core.Path.{◌≡◌, refl, sym, ap, ap₂, ◌∙◌, subst}
 use mathlib.Core.Bool.{Bool, true, false}
 use mathlib.Core.List.{List, [], ◌∷◌, ◌++◌, append_assoc, append-nil}
-use Prim.Native.Nat.{ℕ, zero, suc, ◌+◌, ◌-◌, ◌*◌, ◌/◌, ◌%◌, ◌^◌, ◌≤◌, ◌<◌, zero-le, suc-le-suc}
+use Prim.Native.Nat.{ℕ, zero, suc, ◌+◌, ◌-◌, ◌*◌, ◌/◌, ◌%◌, ◌^◌, ◌≤◌, ◌<◌}
 use native.Mathlib.Nat.{zero-add, suc-add, add_comm, suc-sub-suc, zero-sub, sub-zero, zero-div, mod-lt, mod-mod, mod-eq_of_lt, pow-succ', le_of_suc-le-suc, not-suc-le-zero, le_refl, zero-lt-suc, zero-mul, add-zero, add_assoc}
 use native.Mathlib.Numerals.{one-add}
 use native.Mathlib.Omega.{arith}
 use lib.ListN.{length, get_or, set, take, drop, replicate, length-append, take-append-drop, length-drop, drop_of_length-le, get_or-append, get_or-eq_default, replicate-append-replicate, length-replicate}
 use lib.Seq.{take_at, drop_at, take-append-add, drop-append-add, take-append-le, drop-append-le, take-add, take-take, drop-drop, take-nil, drop-nil, drop-cons, set_split, get_or-drop, take_all, length_paste_head, length-take-le}
 use lib.Dec.{eqb}
-use mathlib.Core.Logic.{◌⊎◌, inl, inr, ⊎_elim, ◌↔◌}
+use mathlib.Core.Logic.{⊎_elim, ◌↔◌}
 use lib.Arith.{digits_lt}
 use lib.Pow.{pow_pos, shr-shr, mod-pow-add, mod-mod-pow, field, high, low}
+use Rattle.std.proofs.lemmas.Bool.{cases_lt}
 use Rattle.bits.specs.Bits.{odd, one_if, digits, num, bits, packs, pack, octets_for, Octets, copied}
-
-pub lt-or-ge : (a b : ℕ) → (a < b) ⊎ (b ≤ a)
-lt-or-ge a zero = inr zero-le
-lt-or-ge zero (suc b) = inl (suc-le-suc zero-le)
-lt-or-ge (suc a) (suc b) = ⊎_elim (λ p. inl (suc-le-suc p)) (λ q. inr (suc-le-suc q)) (lt-or-ge a b)
 
 -- ---- one digit
 
@@ -242,7 +238,7 @@ zeros n = replicate n false
 fill_step : (l : List Bool) (m : ℕ) → length l ≤ 8 * suc m
     → digits 8 (num 8 l) ++ (drop 8 l ++ zeros (8 * m - length (drop 8 l))) ≡ l ++ zeros (8 * suc m - length l)
 unfolding zeros
-fill_step l m h = ap (λ (x : List Bool). x ++ (drop 8 l ++ zeros (8 * m - length (drop 8 l)))) (digits-num 8 l) ∙ ⊎_elim short long (lt-or-ge (length l) 8)
+fill_step l m h = ap (λ (x : List Bool). x ++ (drop 8 l ++ zeros (8 * m - length (drop 8 l)))) (digits-num 8 l) ∙ ⊎_elim short long (cases_lt (length l) 8)
   where
     short : length l < 8 → take 8 l ++ zeros (8 - length l) ++ (drop 8 l ++ zeros (8 * m - length (drop 8 l))) ≡ l ++ zeros (8 * suc m - length l)
     short s =
@@ -350,7 +346,7 @@ pub window_field : (i a k b : ℕ) (s : List ℕ) → Octets s → i < length s 
 unfolding bits
 window_field i a k b s o h a8 e =
     ap (num k) (sym (drop-drop a (8 * i) (bits s)) ∙ ap (drop a) (bits_from i s h))
-    ∙ ⊎_elim more last (lt-or-ge (suc i) (length s))
+    ∙ ⊎_elim more last (cases_lt (suc i) (length s))
   where
     more : suc i < length s → num k (drop a (digits 8 (get_or s i 0) ++ bits (drop (suc i) s))) ≡ (get_or s i 0 * 2 ^ 8 + get_or s (suc i) 0) / 2 ^ b % 2 ^ k
     more m =

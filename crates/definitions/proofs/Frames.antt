@@ -11,7 +11,8 @@ use lib.Seq.{take_at, drop_at, drop-drop, take-add, take_all, length-take-le}
 use borrow.Author.Tests.{leb-true, le-leb, eqb-true, eq-eqb}
 use Rattle.bits.specs.Bits.{digits, num, clear, bits, pack, octets_for, Octets}
 use Rattle.bits.proofs.BitLaws.{num-lt, num_front, num-clear, num-zero, num-append, digits-num-le, length-bits, bits-append, bits-take, bits_pack, length-pack, pack-unique, octets-take}
-use Rattle.bits.proofs.Tests.{and_left, and_right, both, or_else, given}
+use Rattle.std.proofs.lemmas.Bool.{and_from}
+use Rattle.bits.proofs.Tests.{and_left, and_right, or_else, given}
 use Rattle.parity.specs.Crc.{crc}
 use Rattle.parity.proofs.Register.{length-crc}
 use Rattle.definitions.specs.Outcome.{refused, ok, unless}
@@ -144,7 +145,7 @@ spare-laid : (f : Format) (x : Frame) (z : List Bool) → Valid f x → spare_cl
 unfolding spare_clear
 spare-laid f x z v =
     let p = spares_laid f x (replicate (fill_bits f x.type) false ++ z) in
-    both _ _ (eq-eqb _ 0 p.0) (both _ _ (eq-eqb _ 0 p.1) (fill_clear_lem f x z v))
+    and_from _ _ (eq-eqb _ 0 p.0) (and_from _ _ (eq-eqb _ 0 p.1) (fill_clear_lem f x z v))
 
 crc_modes : (b : Bool) (x : Frame) (z : List Bool)
     → (not b || eqb (num 8 (drop 8 (modes b x z))) (num 8 (crc (take (class_a x.type) x.core)))) ≡ true

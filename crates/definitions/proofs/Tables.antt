@@ -8,7 +8,8 @@ use native.Mathlib.Omega.{arith}
 use lib.Dec.{eqb, leb}
 use borrow.Author.Tests.{leb-true, eqb-true}
 use Rattle.bits.specs.Bits.{octets_for}
-use Rattle.bits.proofs.Tests.{and_left, and_right, or_cases, given, every_below_lem}
+use Rattle.std.proofs.lemmas.Bool.{or_cases}
+use Rattle.bits.proofs.Tests.{and_left, and_right, given, every_below_lem}
 use Rattle.definitions.specs.Frames.{Format, if1, if2, storage, Row, row, type_table, listed, known, core_bits, class_a, octets, header_bits}
 
 abbrev types_up_to : ℕ → List Row → Bool

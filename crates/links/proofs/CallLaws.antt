@@ -10,7 +10,8 @@ use lib.Dec.{eqb, leb}
 use lib.ListN.{length, take}
 use borrow.Author.Tests.{leb-true, le-leb, eq-eqb, ne_eqb}
 use Rattle.bits.proofs.BitLaws.{pack_octets}
-use Rattle.bits.proofs.Tests.{and_right, both}
+use Rattle.std.proofs.lemmas.Bool.{and_from}
+use Rattle.bits.proofs.Tests.{and_right}
 use Rattle.definitions.specs.Outcome.{Outcome, refused, ok, unless, and_then}
 use Rattle.definitions.specs.Frames.{if1, Frame, octets, header, layout, fields_good}
 use Rattle.definitions.specs.Reading.{read_with}
@@ -35,7 +36,7 @@ then_ok (ok a) next b h = (a, refl, h)
 pub assign_takes : (l : Link) (ns : List ℕ) → length ns % 5 ≡ 0 → set_good (in_fives ns) ≡ true → has_set l ≡ false
     → assign_call l ns ≡ ok (link_by (rfc_set (in_fives ns)) l.request l.forwarded)
 unfolding assign_call
-assign_takes l ns e g p = rw (both _ _ (eq-eqb _ _ e) g, p)
+assign_takes l ns e g p = rw (and_from _ _ (eq-eqb _ _ e) g, p)
 
 pub assign-ok : (l : Link) (ns : List ℕ) (m : Link) → assign_call l ns ≡ ok m
     → (set_good (in_fives ns) ≡ true) × (link_by (rfc_set (in_fives ns)) l.request l.forwarded ≡ m)

@@ -9,7 +9,8 @@ use native.Mathlib.Omega.{arith}
 use lib.Dec.{eqb, leb}
 use lib.ListN.{length}
 use borrow.Author.Tests.{leb-true, eqb-true, not-true}
-use Rattle.bits.proofs.Tests.{and_left, and_right, both, or_cases, given, every_below_lem}
+use Rattle.std.proofs.lemmas.Bool.{and_from, or_cases}
+use Rattle.bits.proofs.Tests.{and_left, and_right, given, every_below_lem}
 use Rattle.definitions.specs.Outcome.{ok}
 use Rattle.definitions.specs.Frames.{known, core_bits}
 use Rattle.definitions.proofs.Frames.{never}
@@ -84,7 +85,7 @@ apart-has k n d c (Memᴰ.tail {x = x} m) a h =
 pub lookup_member : (k : Key) (n : ℕ) (c : Combination) {cs : List Combination} → Memᴰ c cs → all_good cs ≡ true → has k n c ≡ true
     → lookup k n cs ≡ ok c
 lookup_member k n c (Memᴰ.head {x = x} {xs = cs} e) g h =
-    ap (λ b. cond b (ok x) (lookup k n cs)) (both _ _ (ap (has k n) (sym e) ∙ h) (and_left _ _ g)) ∙ ap ok (sym e)
+    ap (λ b. cond b (ok x) (lookup k n cs)) (and_from _ _ (ap (has k n) (sym e) ∙ h) (and_left _ _ g)) ∙ ap ok (sym e)
 lookup_member k n c (Memᴰ.tail {x = x} {xs = cs} m) g h =
     let r = and_right (combination_good x) _ g in
     ap (λ b. cond (b && combination_good x) (ok x) (lookup k n cs)) (apart-has k n x c m (and_left _ _ r) h)

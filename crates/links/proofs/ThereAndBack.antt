@@ -11,7 +11,8 @@ use lib.Seq.{take_at, drop_at, drop-drop, take-add, take_all, length-take-le}
 use borrow.Author.Tests.{le-leb, eqb-true, eq-eqb}
 use Rattle.bits.specs.Bits.{bits, pack, octets_for, Octets}
 use Rattle.bits.proofs.BitLaws.{length-pack}
-use Rattle.bits.proofs.Tests.{and_left, and_right, both}
+use Rattle.std.proofs.lemmas.Bool.{and_from}
+use Rattle.bits.proofs.Tests.{and_left, and_right}
 use Rattle.definitions.specs.Frames.{if1, if2, Frame, frame_by, core_bits}
 use Rattle.definitions.specs.Reading.{read_with}
 use Rattle.definitions.specs.Claims.{Valid}
@@ -69,7 +70,7 @@ subflow_good_lem n s o h =
 pack_subflow : (n : ℕ) (l : List Bool) → length l ≡ n → (subflow_good n (pack l) ≡ true) × (take n (bits (pack l)) ≡ l)
 pack_subflow n l e =
     subst (λ n. (subflow_good n (pack l) ≡ true) × (take n (bits (pack l)) ≡ l)) e
-    (both _ _ (eq-eqb _ _ (length-pack l)) (bits-core l).1, (bits-core l).0)
+    (and_from _ _ (eq-eqb _ _ (length-pack l)) (bits-core l).1, (bits-core l).0)
 
 -- ---- a frame split, and joined again
 
@@ -83,7 +84,7 @@ split-joined c core e =
     let p₁ = pack_subflow c.size1 _ n.0 in
     let p₂ = pack_subflow c.size2 _ n.1 in
     let p₃ = pack_subflow c.size3 _ n.2 in (
-      both _ _ p₁.0 (both _ _ p₂.0 p₃.0),
+      and_from _ _ p₁.0 (and_from _ _ p₂.0 p₃.0),
       ap₂ ◌++◌ p₁.1 (ap₂ ◌++◌ p₂.1 p₃.1) ∙ parts_join c.size1 c.size2 c.size3 core e,
     )
 
@@ -116,8 +117,8 @@ joined-split c s₁ s₂ s₃ o₁ o₂ o₃ h =
       flow2 = ap pack parts.1 ∙ p₂.packed;
       flow3 = ap pack parts.2 ∙ p₃.packed;
       rooms = λ m₁ m₂ m₃ r₁ r₂ r₃.
-          both _ _ (le-leb _ m₁ (omega (arith, p₁.size)))
-          (both _ _ (le-leb _ m₂ (omega (arith, p₂.size))) (le-leb _ m₃ (omega (arith, p₃.size))));
+          and_from _ _ (le-leb _ m₁ (omega (arith, p₁.size)))
+          (and_from _ _ (le-leb _ m₂ (omega (arith, p₂.size))) (le-leb _ m₃ (omega (arith, p₃.size))));
     }
 
 module _ (r q : ℕ) (c : Combination) (s₁ s₂ s₃ : List ℕ) where

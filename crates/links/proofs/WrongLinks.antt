@@ -7,7 +7,7 @@ use native.Mathlib.Nat.{le_refl}
 use native.Mathlib.Omega.{arith}
 use lib.Dec.{leb}
 use Rattle.bits.specs.Bits.{odd, digits, num}
-use Rattle.bits.proofs.Tests.{both}
+use Rattle.std.proofs.lemmas.Bool.{and_from}
 use Rattle.definitions.specs.Outcome.{ok}
 use Rattle.definitions.specs.Frames.{if1, Frame, frame_by, known, core_bits, fields_good, layout}
 use Rattle.definitions.specs.Claims.{Valid}
@@ -32,7 +32,7 @@ sid r = frame_by 9 1 0 r sid_update_frame.core
 
 sid-valid : (r : ℕ) → leb r 8 ≡ true → Valid if1 (sid r)
 unfolding odd digits num known core_bits fields_good
-sid-valid r h = record { type_known = refl; quality_bit = le_refl 1; core_length = refl; fields_are_good = both _ _ h refl }
+sid-valid r h = record { type_known = refl; quality_bit = le_refl 1; core_length = refl; fields_are_good = and_from _ _ h refl }
 
 -- a combination for SID frames, and a link that has it
 abbrev of_sid : Combination

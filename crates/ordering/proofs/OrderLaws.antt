@@ -15,7 +15,8 @@ use mir.Val.{bool_byte}
 use Rattle.std.proofs.lemmas.List.{take-map, drop-map, nil_from_length}
 use borrow.Author.Tests.{leb-true}
 use Rattle.bits.specs.Bits.{one_if, num, packs, pack, octets_for}
-use Rattle.bits.proofs.BitLaws.{lt-or-ge, num-lt, num-take, length-packs}
+use Rattle.std.proofs.lemmas.Bool.{cases_lt}
+use Rattle.bits.proofs.BitLaws.{num-lt, num-take, length-packs}
 use Rattle.bits.proofs.Tests.{and_left, and_right}
 use Rattle.definitions.specs.Reading.{overwritten}
 use Rattle.definitions.specs.Order.{codec_bit, zero_or_one, row_bits, row_octets, ordered, place_of, unordered}
@@ -113,7 +114,7 @@ part_is n all part rest e l =
     (λ (h : n ≤ length all).
     let m : length part ≡ n = omega arith in
     (sym (ap (take n) e ∙ take_at part rest n m), sym (ap (drop n) e ∙ drop_at part rest n m)))
-    (lt-or-ge (length all) n)
+    (cases_lt (length all) n)
 
 -- the parts in front of j are packed
 pub record Packed (table row core₀ core rest : List ℕ) (size j : ℕ) : Type 0 where
@@ -226,7 +227,7 @@ module _ (table : List ℕ) (p : Permutes (length table) table) (d : List Bool) 
             let same : i ≡ j = omega arith in
             ap (λ n. get_or (set row (get_or table j 0) v) (get_or table n 0) 0) same
             ∙ get_or-set_same row (get_or table j 0) v 0 (omega (arith, s.size)) ∙ e ∙ ap (λ n. one_if (get_or d n false)) (sym same))
-            (lt-or-ge i j);
+            (cases_lt i j);
         behind = λ n l. get_or-set_other row (get_or table j 0) n v 0 (λ same. omega arith) ∙ s.behind n l;
       }
 
@@ -251,4 +252,4 @@ module _ (table : List ℕ) (p : Permutes (length table) table) (d : List Bool) 
       ∙ sym
       (ap (λ i. get_or (w ++ drop (length w) row₀) i 0) (sym e)
       ∙ get_or-append-add w (drop (length w) row₀) (n - length w) 0 ∙ get_or-drop (length w) row₀ (n - length w) 0 ∙ ap (λ i. get_or row₀ i 0) e))
-      (lt-or-ge n (length table)))
+      (cases_lt n (length table)))

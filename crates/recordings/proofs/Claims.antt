@@ -10,7 +10,8 @@ use lib.Seq.{take_at, drop_at}
 use borrow.Author.Tests.{leb-true, le-leb, eqb-true, eq-eqb}
 use Rattle.bits.specs.Bits.{Octets}
 use Rattle.bits.proofs.BitLaws.{octets-drop}
-use Rattle.bits.proofs.Tests.{and_left, and_right, both}
+use Rattle.std.proofs.lemmas.Bool.{and_from}
+use Rattle.bits.proofs.Tests.{and_left, and_right}
 use Rattle.definitions.specs.Outcome.{refused}
 use Rattle.definitions.specs.Frames.{Format, Frame}
 use Rattle.definitions.specs.Reading.{read_frame}
@@ -32,7 +33,7 @@ octets-same a b e = subst (λ c. same_octets a c ≡ true) e (reflexive a)
   where
     reflexive : (l : List ℕ) → same_octets l l ≡ true
     reflexive [] = refl
-    reflexive (x ∷ l) = both _ _ (eq-eqb x x refl) (reflexive l)
+    reflexive (x ∷ l) = and_from _ _ (eq-eqb x x refl) (reflexive l)
 
 -- ---- a chain of two tests
 

@@ -10,7 +10,8 @@ use lib.Dec.{eqb, leb}
 use lib.ListN.{length, drop, length-append}
 use borrow.Author.Tests.{leb-true, leb-false, le-leb, eqb-true, eq-eqb}
 use Rattle.bits.specs.Bits.{num}
-use Rattle.bits.proofs.Tests.{and_left, and_right, both, given}
+use Rattle.std.proofs.lemmas.Bool.{and_from}
+use Rattle.bits.proofs.Tests.{and_left, and_right, given}
 use Rattle.definitions.specs.Frames.{Format, if1, if2, storage, Frame, frame_by, octets, carries_modes, layout, sid_good, uncarried_zero, fields_good}
 use Rattle.definitions.specs.Claims.{Valid}
 use Rattle.definitions.proofs.Frames.{frame_path, fields_are_good, length-layout}
@@ -28,7 +29,7 @@ sid-good f x v = and_left _ _ (and_right (leb x.request 8) _ (and_right (leb x.i
 
 -- a condition's first demand, exchanged for another
 exchanged : (b p q m : Bool) → (b ≡ true → q ≡ true) → (not b || (p && m)) ≡ true → (not b || (q && m)) ≡ true
-exchanged true p q m z h = both q m (z refl) (and_right p m h)
+exchanged true p q m z h = and_from q m (z refl) (and_right p m h)
 exchanged false p q m z h = refl
 
 -- a valid frame with other modes
@@ -40,7 +41,7 @@ modes_valid f g x i r v hi hr z u = record {
   quality_bit = v.quality_bit;
   core_length = v.core_length;
   fields_are_good =
-      both _ _ (le-leb i 8 hi) (both _ _ (le-leb r 8 hr) (both _ _
+      and_from _ _ (le-leb i 8 hi) (and_from _ _ (le-leb r 8 hr) (and_from _ _
       (exchanged (eqb x.type 9) (eqb x.indication 0) (eqb i 0) (leb (num 4 (drop 36 x.core)) 8) (λ e. eq-eqb i 0 (z (eqb-true _ _ e))) (sid-good f x v)) u));
 }
 
