@@ -93,11 +93,6 @@ aligned_header if1 t n h = (sym (rw (le-leb t 9 h)), (sizes t h).in_if1)
 aligned_header if2 t n h = absurd (n refl)
 aligned_header storage t n h = (refl, (sizes t h).in_storage)
 
-core_at_most : (f : Format) → core_at f ≤ 3
-core_at_most if1 = omega arith
-core_at_most if2 = omega arith
-core_at_most storage = omega arith
-
 behind-whole : (g : Format) (w : List Bool) → g ≢ if2 → behind g w ≡ w
 behind-whole if1 w n = refl
 behind-whole if2 w n = absurd (n refl)

@@ -10,6 +10,7 @@ use lib.Dec.{eqb, leb}
 use lib.ListN.{length, take, drop, get_or, set, length-append, length-take}
 use lib.Seq.{drop_at}
 use borrow.Author.Tests.{leb-true, le-leb, lt-leb, eqb-true}
+use Rattle.std.proofs.lemmas.List.{nil_from_length}
 use Rattle.bits.specs.Bits.{odd, digits, num, bits, packs, pack, octets_for, Octets}
 use Rattle.bits.proofs.BitLaws.{num-lt, num-digits, num_front, num-append, octet_field}
 use Rattle.bits.proofs.Tests.{or_else, given, every_below_lem}
@@ -102,10 +103,6 @@ one_each if2 t k h =
 one_each storage t k h =
     eqb-true _ _ (or_else (leb t 9) (eqb (octets storage t) 1) (given (known t) _ (every_below_lem 16 (λ t. not (known t) || (leb t 9 || eqb (octets storage t) 1)) refl t (known-below t k)) k) (lt-leb t 9 h))
 
-empty : (l : List Bool) → length l ≡ 0 → l ≡ []
-empty [] h = refl
-empty (b ∷ l) h = absurd (omega arith)
-
 pub carry_none : (f g : Format) (r : ℕ) (src out : List ℕ) (x : Frame) (o : ℕ) → Carriable f g src x out → 9 < x.type → o < 256
     → digits 8 o ≡ first_bits g x.type x.quality → set out 0 o ≡ layout g (carried g f r x) ++ drop (octets g x.type) out
 unfolding header digits num
@@ -122,7 +119,7 @@ carry_none storage if1 r src out x o c h lo e =
     (one_each if1 x.type (valid storage if1 r src out x c).type_known h) (some-room storage if1 r src out x c)
 carry_none f if2 r src out x o c h lo e =
     let v = valid f if2 r src out x c in
-    let n = empty x.core (v.core_length ∙ no_core x.type v.type_known h) in
+    let n = nil_from_length x.core (v.core_length ∙ no_core x.type v.type_known h) in
     one_octet if2 (without_modes x) out o v.type_known v.core_length
     (sym (first-filled x.type x.quality o lo x.core 0 e (sym (ap (num 3) n)) ∙ (let z : o + 0 ≡ o = omega arith in z)))
     (one_each if2 x.type v.type_known h) (some-room f if2 r src out x c)

@@ -1,7 +1,6 @@
 -- A recording that keeps its format. Assumes nothing.
 use mathlib.Core.Path.{◌≡◌, refl, sym, ap, ◌∙◌, subst}
-use mathlib.Core.Bool.{true, false}
-use mathlib.Core.Logic.{◌≢◌}
+use mathlib.Core.Bool.{true}
 use mathlib.Core.List.{List}
 use Prim.Native.Nat.{ℕ, ◌≤◌}
 use native.Mathlib.Omega.{arith}
@@ -32,17 +31,6 @@ same_is If2 Storage e = cc
 same_is Storage If1 e = cc
 same_is Storage If2 e = cc
 same_is Storage Storage e = refl
-
-pub same_not : (f g : CodeFormat) → sameb the_type f g ≡ false → format_of f ≢ format_of g
-same_not If1 If1 e = cc
-same_not If1 If2 e = λ q. cc
-same_not If1 Storage e = λ q. cc
-same_not If2 If1 e = λ q. cc
-same_not If2 If2 e = cc
-same_not If2 Storage e = λ q. cc
-same_not Storage If1 e = λ q. cc
-same_not Storage If2 e = λ q. cc
-same_not Storage Storage e = cc
 
 -- ---- the copy
 
