@@ -1,11 +1,16 @@
--- The pieces that are printed are the lines. Assumes nothing.
+-- The pieces that are printed are the lines, and how long these are. Assumes nothing.
 use mathlib.Core.Path.{◌≡◌}
 use mathlib.Core.List.{List, [], ◌∷◌, ◌++◌, append_assoc}
-use Prim.Native.Nat.{ℕ, ◌^◌, ◌<◌}
+use Prim.Native.Nat.{ℕ, zero, suc, ◌+◌, ◌/◌, ◌%◌, ◌^◌, ◌<◌, ◌≤◌}
+use native.Mathlib.Omega.{arith}
+use lib.ListN.{length, length-append}
+use borrow.Author.Tests.{lt-ltb, le-ltb}
 use Rattle.std.specs.Fmt as printed
-use Rattle.recordings.specs.Placed.{refused_at, done}
+use Rattle.std.proofs.lemmas.Bool.{cases_lt}
+use Rattle.std.proofs.Common.{inl, inr}
+use Rattle.recordings.specs.Placed.{Placed, refused_at, done}
 use Rattle.recordings.specs.Report.{Report}
-use Rattle.report_program.specs.Text.{decimal, line, «format=», «octets=», «frames=», «speech=», «comfort=», «lost=», «empty=», «refusal=», «frame=», «octet=», report_text}
+use Rattle.report_program.specs.Text.{digits_up_to, decimal, line, «format=», «octets=», «frames=», «speech=», «comfort=», «lost=», «empty=», «refusal=», «frame=», «octet=», report_text}
 use Rattle.report_program.proofs.DigitLaws.{decimal_printed}
 
 three : (l₁ d₁ l₂ d₂ l₃ d₃ : List ℕ) → l₁ ++ (d₁ ++ ((10 ∷ l₂) ++ (d₂ ++ ((10 ∷ l₃) ++ (d₃ ++ (10 ∷ []))))))
@@ -44,3 +49,30 @@ report_lines r a b c d e f =
     rw (decimal_printed r.octets a, decimal_printed r.frames b, decimal_printed r.speech c, decimal_printed r.sid d, decimal_printed r.speech_lost e, decimal_printed r.no_data f)
     (seven «format=» (51 ∷ []) «octets=» (decimal r.octets) «frames=» (decimal r.frames) «speech=» (decimal r.speech) «comfort=» (decimal r.sid)
     «lost=» (decimal r.speech_lost) «empty=» (decimal r.no_data))
+
+-- ---- at most 256 octets
+
+few-digits : (most n : ℕ) → length (digits_up_to most n) ≤ most
+few-digits zero n = omega arith
+few-digits (suc most) n = elim (cases_lt n 10) [
+  | inl small ↦ rw (lt-ltb n 10 small) (omega arith)
+  | inr large ↦ rw (le-ltb n 10 large) (omega (arith, few-digits most (n / 10), length-append (digits_up_to most (n / 10)) ((48 + n % 10) ∷ [])))
+]
+
+few_in_line : (label : List ℕ) (n : ℕ) → length (line label n) ≤ length label + 21
+unfolding line decimal
+few_in_line label n = omega (arith, few-digits 20 n, length-append label (decimal n), length-append (label ++ decimal n) (10 ∷ []))
+
+behind : (text label : List ℕ) (m n : ℕ) → length text ≤ m → length (text ++ line label n) ≤ m + (length label + 21)
+behind text label m n few = omega (arith, length-append text (line label n), few_in_line label n)
+
+pub few_octets : (a : Placed Report) → length (report_text a) ≤ 256
+unfolding report_text
+few_octets (done r) = omega (
+  arith,
+  behind _ «empty=» _ r.no_data
+      (behind _ «lost=» _ r.speech_lost
+      (behind _ «comfort=» _ r.sid
+      (behind _ «speech=» _ r.speech (behind _ «frames=» _ r.frames (behind _ «octets=» _ r.octets (few_in_line «format=» 3)))))),
+)
+few_octets (refused_at n frame octet) = omega (arith, behind _ «octet=» _ octet (behind _ «frame=» _ frame (few_in_line «refusal=» n)))

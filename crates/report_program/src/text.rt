@@ -1,7 +1,7 @@
 // The report as text: its lines, or those of a refused recording.
 #![tactic(auto)]
 
-ghost use Rattle.std.specs.Prelude.{◌≡◌, Some};
+ghost use Rattle.std.specs.Prelude.{◌≡◌, ◌≤◌, Some, IfSome, length};
 ghost use Rattle.recordings.specs.Report.{report_call};
 ghost use Rattle.report.specs.Answers.{reported_of};
 ghost use Rattle.report_program.specs.Text.{report_text};
@@ -37,10 +37,12 @@ impl fmt::Display for ReportText {
     }
 }
 
-// The text of the report on a recording.
+// The text of the report on a recording: at most 256 octets are displayed.
+#[tactic(auto, using(crate::proofs::TextLaws::few_octets))]
 pub fn report_text(s: &[u8]) -> ReportText
     ensures answer { reported_of result.0 ≡ report_call s.now }
     ensures text { ⟦<ReportText as fmt::Display>⟧.output result ≡ Some (report_text (report_call s.now)) }
+    ensures bound { IfSome (⟦<ReportText as fmt::Display>⟧.output result) (λ t. length t ≤ 256) }
 {
     ReportText(report_recording(s))
 }
