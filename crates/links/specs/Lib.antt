@@ -2,3 +2,4 @@ pub mod Sets
 pub mod Calls
 pub mod History
 pub mod ThereAndBack
+pub mod Answers

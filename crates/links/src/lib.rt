@@ -2,15 +2,30 @@
 // claimed of the calls, each theorem as the contract of a function that computes nothing. The crates of the link's calls stand above it.
 #![tactic(auto)]
 
+ghost use Rattle.std.specs.Prelude.{◌≡◌, leb};
+ghost use Rattle.definitions.specs.Outcome.{ok, unless};
+ghost use Rattle.links.specs.Answers.{fqc_number, numbered_of};
 ghost use Rattle.links.specs.Calls.{fresh_link, up_call, down_call};
 ghost use Rattle.links.specs.History.{link_step, Remembers, keeps_first, keeps_forwarded, records_refused, refuses_all};
 ghost use Rattle.links.specs.ThereAndBack.{ThereAndBack};
+
+use frame::Refusal;
 
 // How many combinations a set has at most.
 pub const PLACES: usize = 11;
 
 // No request has been forwarded: RFC 4867's number for no mode request. No Option: C holds the state.
 pub const NO_REQUEST: u16 = 15;
+
+// FQC, the quality that goes with the sub-flows of a frame, by document 01's numbers. Up refuses the reserved one behind the set's test.
+#[derive(Clone, Copy, Default, PartialEq, Eq)]
+pub enum Fqc {
+    #[default]
+    Good = 0,
+    Bad = 1,
+    BadRadio = 2,
+    Reserved = 3,
+}
 
 // A RAB sub-flow combination (RFC), document 01's row: the frames of one type, and the bits of each sub-flow.
 #[repr(C)]
@@ -39,6 +54,37 @@ pub struct Link {
     pub set: RfcSet,
     pub request: u16,
     pub forwarded: u16,
+}
+
+// What Up or Down answers, and the state after the call.
+#[derive(Clone, Copy)]
+pub struct Answered<T> {
+    pub answer: Result<T, Refusal>,
+    pub link: Link,
+}
+
+impl TryFrom<u64> for Fqc {
+    type Error = Refusal;
+
+    ghost try_from_gives = { λ n r. numbered_of r ≡ unless 11 (leb n 3) (ok n) };
+
+    fn try_from(n: u64) -> Result<Fqc, Refusal> {
+        match n {
+            0 => Ok(Fqc::Good),
+            1 => Ok(Fqc::Bad),
+            2 => Ok(Fqc::BadRadio),
+            3 => Ok(Fqc::Reserved),
+            _ => Err(Refusal::ArgumentRange),
+        }
+    }
+}
+
+impl From<Fqc> for u64 {
+    ghost from_gives = { λ q n. n ≡ fqc_number q };
+
+    fn from(q: Fqc) -> u64 {
+        q as u64
+    }
 }
 
 // Does nothing. Its contract: after any list of calls from a fresh link the state is what the accepted calls said; a refused call leaves
