@@ -1,11 +1,11 @@
 -- Runs of bits put one behind the other are the packed core, and of a packed core the builder judges 6 and 10 alone. Assumes nothing.
 use mathlib.Core.Path.{◌≡◌, refl, sym, ap, ap₂, subst, ◌∙◌}
-use mathlib.Core.Bool.{Bool, true, false, cond}
+use mathlib.Core.Bool.{Bool, true, false, ◌&&◌, cond}
 use mathlib.Core.List.{List, [], ◌++◌, append_assoc, append-nil}
 use Prim.Native.Nat.{ℕ, ◌+◌, ◌-◌, ◌*◌, ◌<◌, ◌≤◌}
 use native.Mathlib.Nat.{zero-add}
 use native.Mathlib.Omega.{arith}
-use Rattle.std.proofs.Common.{Result, Ok, Err}
+use Rattle.std.proofs.Common.{Option, None, Result, Ok, Err}
 use lib.Dec.{eqb, leb}
 use lib.ListN.{length, take, drop, length-append}
 use lib.Seq.{drop-drop, drop-append-add, take_at, length-take-le}
@@ -25,9 +25,12 @@ use Rattle.frame_writer.specs.Writing.{Writable}
 use Rattle.frame_builder.specs.Output.{IntoOutput}
 use Rattle.frame_builder.proofs.BuilderLaws.{modes_fit}
 use Rattle.links.specs.declared.Combination.{Combination}
-use Rattle.links.specs.Calls.{joined, up_frame, written}
+use Rattle.links.specs.declared.Fqc.{Fqc}
+use Rattle.links.specs.declared.Link.{Link}
+use Rattle.links.specs.Answers.{fqc_number, numbered_of}
+use Rattle.links.specs.Calls.{joined, up_frame, written, up_call}
 use Rattle.links.proofs.SetLaws.{combination-good}
-use Rattle.uplink_judge.specs.Judging.{HasCore}
+use Rattle.uplink_judge.specs.Judging.{writes, HasCore, Judges}
 use Rattle.uplink_judge.proofs.JudgeLaws.{there₁, there₂, there₃, length-joined}
 use Rattle.uplink.specs.Subflows.{Joinable}
 
@@ -107,9 +110,9 @@ build-written t q i r core room k hq size =
     rw (same, ht, le-leb q 1 hq, k, l, z, judged_last)
 
 -- no octets are the packed core of no bits
-pub build-empty : (q p room : ℕ) → q < 2 → p ≡ q → build_frame if1 15 p 0 0 [] room ≡ written (frame_by 15 q 0 0 []) room
+build-empty : (q room : ℕ) → q < 2 → build_frame if1 15 q 0 0 [] room ≡ written (frame_by 15 q 0 0 []) room
 unfolding known core_bits pack packs
-build-empty q p room hq e = ap (λ q. build_frame if1 15 q 0 0 [] room) e ∙ build-written 15 q 0 0 [] room refl (omega arith) refl
+build-empty q room hq = build-written 15 q 0 0 [] room refl (omega arith) refl
 
 -- ---- the promise
 
@@ -189,3 +192,33 @@ module _ (request fqc : ℕ) {c : Combination} {s₁ s₂ s₃ : List ℕ} (h : 
         core_near = omega arith;
         room = omega arith;
       }
+
+-- ---- FQC by its number
+
+module _ (n : ℕ) (r : Result Fqc Refusal) (numbered : numbered_of r ≡ unless 11 (leb n 3) (ok n)) where
+  -- what is no number of an FQC is refused
+  pub number-refused : (e : Refusal) → r ≡ Err e → (l : Link) (rfci : ℕ) (s₁ s₂ s₃ d : List ℕ) (t : Result ℕ Refusal) → t ≡ Err e
+      → IntoOutput (up_call l n rfci s₁ s₂ s₃ (length d)) d d t
+  unfolding up_call
+  number-refused e i l rfci s₁ s₂ s₃ d t k =
+      subst (λ t. IntoOutput (up_call l n rfci s₁ s₂ s₃ (length d)) d d t) (sym k)
+      (refused-up _ d e (first (leb n 3) (leb rfci 63) _ (sym (ap numbered_of i) ∙ numbered)))
+    where
+      first : (b₁ b₂ : Bool) (o : Outcome (List ℕ)) → refused (number_of e) ≡ unless 11 b₁ (ok n) → unless 11 (b₁ && b₂) o ≡ refused (number_of e)
+      first true b₂ o h = absurd cc
+      first false b₂ o h = let m : number_of e ≡ 11 = cc in ap refused (sym m)
+
+  -- what is taken is the number
+  pub number-same : (q : Fqc) → r ≡ Ok q → fqc_number q ≡ n
+  number-same q i = taken (leb n 3) (sym (ap numbered_of i) ∙ numbered)
+    where
+      taken : (b : Bool) → ok (fqc_number q) ≡ unless 11 b (ok n) → fqc_number q ≡ n
+      taken true h = cc
+      taken false h = absurd cc
+
+-- what was judged to have no core is built
+pub none-built : (l : Link) (n rfci : ℕ) (s₁ s₂ s₃ : List ℕ) (room p q : ℕ) → p ≡ q → (q ≡ cond (eqb n 0) 1 0) × (q < 2)
+    → (j : Result (Option Combination) Refusal) → j ≡ Ok None → Judges l n rfci s₁ s₂ s₃ j → build_frame if1 15 p 0 0 [] room ≡ up_call l n rfci s₁ s₂ s₃ room
+none-built l n rfci s₁ s₂ s₃ room p q same of j none judged =
+    ap (λ p. build_frame if1 15 p 0 0 [] room) same ∙ build-empty q room of.1 ∙ ap (λ q. written (frame_by 15 q 0 0 []) room) of.0
+    ∙ sym (ap (λ j. writes l.request n s₁ s₂ s₃ j room) none) ∙ judged.call room

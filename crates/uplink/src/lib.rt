@@ -3,6 +3,7 @@
 
 ghost use Rattle.std.specs.Prelude.{◌≡◌, Bool, List, ◌++◌, ℕ, ◌+◌, ◌*◌, ◌^◌, ◌<◌, ◌≤◌, length, take, drop};
 ghost use Rattle.bits.specs.Bits.{bits, pack, octets_for};
+ghost use Rattle.links.specs.Answers.{fqc_number};
 ghost use Rattle.links.specs.Calls.{joined, up_frame, written, up_call};
 ghost use Rattle.uplink_judge.specs.Judging.{HasCore};
 ghost use Rattle.frame_builder.specs.Output.{IntoOutput};
@@ -14,18 +15,11 @@ use frame::table::core_octets;
 use frame::{Format, FrameHeader, IF1_CORE_AT, Refusal, indication_of};
 use frame_builder::{build, core_fields_good};
 use frame_writer::write_modes;
-use links::{Combination, Link};
-use uplink_judge::{Judged, SubflowOctets, judge, quality_of};
+use links::{Answered, Combination, Fqc, Link};
+use uplink_judge::{SubflowOctets, judge, quality_of};
 
 // The octets of the longest core.
 const CORE_MOST: usize = 60;
-
-// The answer, and the state, which Up leaves.
-#[derive(Clone, Copy)]
-pub struct UpAnswer {
-    pub answer: Result<usize, Refusal>,
-    pub link: Link,
-}
 
 // Puts a sub-flow behind the first `at` bits of a core, behind which there is nothing but the filling. Most third sub-flows have no bits.
 fn append(s: &[u8], size: u16, core: &mut [u8], at: usize)
@@ -52,13 +46,13 @@ fn join(c: Combination, s: SubflowOctets<'_>, core: &mut [u8])
 // Makes the frame of types 0 to 9 of sub-flows that are right: joined, judged and written.
 fn build_joined(
     request: u16,
-    fqc: u64,
+    fqc: Fqc,
     c: Combination,
     s: SubflowOctets<'_>,
     out: &mut [u8],
 ) -> Result<usize, Refusal>
     requires { HasCore c s.s1.now s.s2.now s.s3.now }
-    ensures { IntoOutput (written (up_frame request fqc c s.entry.s1.now s.entry.s2.now s.entry.s3.now) (length out.old)) out.old out.new result }
+    ensures { IntoOutput (written (up_frame request (fqc_number fqc) c s.entry.s1.now s.entry.s2.now s.entry.s3.now) (length out.old)) out.old out.new result }
 {
     let mut core = [0u8; CORE_MOST];
     join(c, s, &mut core);
@@ -98,16 +92,20 @@ pub fn join_frame(
 ) -> Result<usize, Refusal>
     ensures { IntoOutput (up_call link fqc rfci s.entry.s1.now s.entry.s2.now s.entry.s3.now (length out.old)) out.old out.new result }
 {
+    let fqc = Fqc::try_from(fqc)?;
     match judge(link, fqc, rfci, s)? {
-        Judged::Core(c) => build_joined(link.request, fqc, c, s, out),
-        Judged::Empty(quality) => build(Format::If1, NO_DATA, u64::from(quality), 0, 0, &[], out),
+        Some(c) => build_joined(link.request, fqc, c, s, out),
+        None => {
+            let quality = u64::from(quality_of(fqc));
+            build(Format::If1, NO_DATA, quality, 0, 0, &[], out)
+        }
     }
 }
 
 // The same, with the state handed back. An entry.
-pub fn up(link: Link, fqc: u64, rfci: u64, s: SubflowOctets<'_>, out: &mut [u8]) -> UpAnswer
+pub fn up(link: Link, fqc: u64, rfci: u64, s: SubflowOctets<'_>, out: &mut [u8]) -> Answered<usize>
     ensures { UpInto (up_call link fqc rfci s.entry.s1.now s.entry.s2.now s.entry.s3.now (length out.old)) link out.old out.new result }
 {
     let answer = join_frame(link, fqc, rfci, s, out);
-    UpAnswer { answer, link }
+    Answered { answer, link }
 }

@@ -4,11 +4,13 @@ use mathlib.Core.Bool.{Bool, true, false, ◌&&◌, ◌||◌, cond}
 use mathlib.Core.List.{List, [], ◌∷◌, ◌++◌}
 use Prim.Native.Nat.{ℕ, ◌+◌, ◌*◌, ◌<◌, ◌≤◌}
 use native.Mathlib.Omega.{arith}
-use Rattle.std.proofs.Common.{Result, Ok, Err}
+use Rattle.core.specs.Bool.{then_some}
+use Rattle.std.proofs.Common.{Option, Some, None, Result, Ok, Err}
+use denote.Enum.Bare.{sameb}
 use lib.Dec.{eqb, leb}
 use lib.ListN.{length, take, length-append}
 use lib.Seq.{length-take-le}
-use borrow.Author.Tests.{lt-leb, eqb-true, eq-eqb, ne_eqb}
+use borrow.Author.Tests.{lt-leb, leb-true, leb-false, eqb-true, ne_eqb}
 use Rattle.bits.specs.Bits.{bits, octets_for}
 use Rattle.bits.proofs.BitLaws.{length-bits}
 use Rattle.bits.proofs.Tests.{and_left, and_right}
@@ -19,13 +21,15 @@ use Rattle.frame.specs.Answers.{number_of}
 use Rattle.frame.specs.declared.Refusal.{Refusal}
 use Rattle.frame.specs.declared.Refusal.TheVariants.{SubflowBuffer}
 use Rattle.links.specs.declared.Combination.{Combination}
+use Rattle.links.specs.declared.Fqc.{Fqc}
+use Rattle.links.specs.declared.Fqc.TheVariants.{Good, Bad, BadRadio, Reserved}
+use Rattle.links.specs.contracts.Fqc.{the_type}
 use Rattle.links.specs.declared.Link.{Link}
+use Rattle.links.specs.Answers.{fqc_number}
 use Rattle.links.specs.Sets.{link_type, combination_good, combinations, by_rfci, lookup}
 use Rattle.links.specs.Calls.{subflow_good, subflows_good, joined, up_frame, no_data_bad, written, up_call}
 use Rattle.links.proofs.SetLaws.{combination-good, lookup-found}
 use Rattle.uplink_judge.specs.Judging.{picked, HasCore, Judges}
-use Rattle.uplink_judge.specs.declared.Judged.{Judged}
-use Rattle.uplink_judge.specs.declared.Judged.TheVariants.{Core, Empty}
 
 -- ---- sub-flows
 
@@ -71,9 +75,9 @@ module _ (c : Combination) (s₁ s₂ s₃ : List ℕ) (g : combination_good c �
   unfolding core_bits
   no_bits = (combination-good c g).sum ∙ ap core_bits type-empty
 
-  pub frame-empty : (request fqc q : ℕ) → q ≡ cond (eqb fqc 0) 1 0 → frame_by 15 q 0 0 [] ≡ up_frame request fqc c s₁ s₂ s₃
-  frame-empty request fqc q e =
-      frame_path _ _ (sym type-empty) e (sym (ap (λ b. cond b c.frame_type 0) (lt-leb c.frame_type 8 (omega arith))))
+  pub frame-empty : (request fqc : ℕ) → frame_by 15 (cond (eqb fqc 0) 1 0) 0 0 [] ≡ up_frame request fqc c s₁ s₂ s₃
+  frame-empty request fqc =
+      frame_path _ _ (sym type-empty) refl (sym (ap (λ b. cond b c.frame_type 0) (lt-leb c.frame_type 8 (omega arith))))
       (sym (ap (λ b. cond b request 0) (lt-leb c.frame_type 9 t))) (sym (empty (joined c s₁ s₂ s₃) (length-joined c s₁ s₂ s₃ w ∙ no_bits)))
     where
       empty : (l : List Bool) → length l ≡ 0 → l ≡ []
@@ -95,6 +99,13 @@ picked-good l fqc rfci c h = passed (leb fqc 3 && leb rfci 63) (leb 1 l.set.coun
 
 -- ---- the call
 
+-- the test for a bad frame
+pub bad_test : (q : Fqc) → sameb the_type q Bad ≡ eqb (fqc_number q) 1
+bad_test Good = refl
+bad_test Bad = refl
+bad_test BadRadio = refl
+bad_test Reserved = refl
+
 -- the call, by what was picked
 up-picked : (l : Link) (fqc rfci : ℕ) (s₁ s₂ s₃ : List ℕ) (room : ℕ)
     → up_call l fqc rfci s₁ s₂ s₃ room ≡ and_then (picked l fqc rfci) (λ c. cond (eqb fqc 1) (written no_data_bad room)
@@ -111,44 +122,47 @@ up-picked l fqc rfci s₁ s₂ s₃ room =
     through true true false o next = refl
 
 module _ (l : Link) (fqc rfci : ℕ) (s₁ s₂ s₃ : List ℕ) where
-  pub judges-refused : (r : Result Judged Refusal) (e : Refusal) → r ≡ Err e → refused (number_of e) ≡ picked l fqc rfci → Judges l fqc rfci s₁ s₂ s₃ r
+  pub judges-refused : (r : Result (Option Combination) Refusal) (e : Refusal) → r ≡ Err e → refused (number_of e) ≡ picked l fqc rfci → Judges l fqc rfci s₁ s₂ s₃ r
   judges-refused r e i h = record {
     call = λ room. sym (up-picked l fqc rfci s₁ s₂ s₃ room ∙ rw (← h, i));
     core = λ c z. absurd (let y = sym i ∙ z in cc);
-    quality = λ q z. absurd (let y = sym i ∙ z in cc);
   }
 
   module _ (c : Combination) (h : ok c ≡ picked l fqc rfci) where
-    pub judges_bad : fqc ≡ 1 → Judges l fqc rfci s₁ s₂ s₃ (Ok (Empty 0))
+    pub judges_bad : eqb fqc 1 ≡ true → Judges l fqc rfci s₁ s₂ s₃ (Ok None)
     judges_bad e = record {
-      call = λ room. sym (up-picked l fqc rfci s₁ s₂ s₃ room ∙ rw (← h, eq-eqb fqc 1 e));
+      call = λ room. sym (up-picked l fqc rfci s₁ s₂ s₃ room ∙ rw (← h, e, ne_eqb fqc 0 (λ z. omega (arith, eqb-true fqc 1 e))));
       core = λ c z. absurd cc;
-      quality = λ q z. let y : 0 ≡ q = cc in omega arith;
     }
 
-    module _ (n : fqc ≡ 1 → ⊥) where
+    module _ (n : eqb fqc 1 ≡ false) where
       pub judges-subflows : subflows_good c s₁ s₂ s₃ ≡ false → Judges l fqc rfci s₁ s₂ s₃ (Err SubflowBuffer)
       judges-subflows w = record {
-        call = λ room. sym (up-picked l fqc rfci s₁ s₂ s₃ room ∙ rw (← h, ne_eqb fqc 1 n, w));
+        call = λ room. sym (up-picked l fqc rfci s₁ s₂ s₃ room ∙ rw (← h, n, w));
         core = λ c z. absurd cc;
-        quality = λ q z. absurd cc;
       }
 
       module _ (w : subflows_good c s₁ s₂ s₃ ≡ true) where
-        pub judges-empty : (q : ℕ) → 9 < c.frame_type → q ≡ cond (eqb fqc 0) 1 0 → q < 2 → Judges l fqc rfci s₁ s₂ s₃ (Ok (Empty q))
-        judges-empty q t e b = record {
+        judges-empty : 9 < c.frame_type → Judges l fqc rfci s₁ s₂ s₃ (Ok None)
+        judges-empty t = record {
           call = λ room.
-              ap (λ x. written x room) (frame-empty c s₁ s₂ s₃ (picked-good l fqc rfci c (sym h)) t w l.request fqc q e)
-              ∙ sym (up-picked l fqc rfci s₁ s₂ s₃ room ∙ rw (← h, ne_eqb fqc 1 n, w));
+              ap (λ x. written x room) (frame-empty c s₁ s₂ s₃ (picked-good l fqc rfci c (sym h)) t w l.request fqc)
+              ∙ sym (up-picked l fqc rfci s₁ s₂ s₃ room ∙ rw (← h, n, w));
           core = λ c z. absurd cc;
-          quality = λ p z. let y : q ≡ p = cc in omega arith;
         }
 
-        pub judges-core : c.frame_type ≤ 9 → Judges l fqc rfci s₁ s₂ s₃ (Ok (Core c))
+        judges-core : c.frame_type ≤ 9 → Judges l fqc rfci s₁ s₂ s₃ (Ok (Some c))
         judges-core t = record {
-          call = λ room. sym (up-picked l fqc rfci s₁ s₂ s₃ room ∙ rw (← h, ne_eqb fqc 1 n, w));
+          call = λ room. sym (up-picked l fqc rfci s₁ s₂ s₃ room ∙ rw (← h, n, w));
           core = λ d z.
               let y : c ≡ d = cc in
               subst (λ d. HasCore d s₁ s₂ s₃) y (record { good = picked-good l fqc rfci c (sym h); type = t; flows = w });
-          quality = λ q z. absurd cc;
         }
+
+        judges-type : (b : Bool) → leb c.frame_type 9 ≡ b → Judges l fqc rfci s₁ s₂ s₃ (Ok (then_some b c))
+        judges-type true e = judges-core (leb-true c.frame_type 9 e)
+        judges-type false e = judges-empty (leb-false c.frame_type 9 e)
+
+        pub judges-right : (o : Option Combination) (t : ℕ) → t ≡ c.frame_type → o ≡ then_some (leb t 9) c → Judges l fqc rfci s₁ s₂ s₃ (Ok o)
+        judges-right o t same e =
+            subst (λ o. Judges l fqc rfci s₁ s₂ s₃ (Ok o)) (sym (e ∙ ap (λ t. then_some (leb t 9) c) same)) (judges-type (leb c.frame_type 9) refl)

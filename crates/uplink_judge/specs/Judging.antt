@@ -1,5 +1,5 @@
 -- What Up judges before it writes, and what it is then to write.
-use Rattle.std.specs.Prelude.{◌≡◌, true, ◌&&◌, List, [], ℕ, ◌<◌, ◌≤◌, leb, Result, Ok}
+use Rattle.std.specs.Prelude.{◌≡◌, true, ◌&&◌, cond, List, [], ℕ, ◌≤◌, eqb, leb, Option, Some, None, Result, Ok}
 use Rattle.definitions.specs.Outcome.{Outcome, unless, and_then}
 use Rattle.definitions.specs.Frames.{Frame, frame_by}
 use Rattle.frame.specs.declared.Refusal.{Refusal}
@@ -8,8 +8,6 @@ use Rattle.links.specs.declared.Combination.{Combination}
 use Rattle.links.specs.declared.Link.{Link}
 use Rattle.links.specs.Sets.{combination_good, combinations, by_rfci, lookup}
 use Rattle.links.specs.Calls.{has_set, subflows_good, up_frame, written, up_call}
-use Rattle.uplink_judge.specs.declared.Judged.{Judged}
-use Rattle.uplink_judge.specs.declared.Judged.TheVariants.{Core, Empty}
 
 -- 11, 14, 13 and 16, the front of `up_call`
 unfoldable pub picked : Link → (fqc rfci : ℕ) → Outcome Combination
@@ -22,13 +20,13 @@ picked l fqc rfci =
 abbrev pub picked_of : Result Combination Refusal → Outcome Combination
 picked_of = outcome_of (λ c. c)
 
--- the frame that is then to be written
-abbrev pub frame_of : (request fqc : ℕ) → (s₁ s₂ s₃ : List ℕ) → Judged → Frame
-frame_of r fqc s₁ s₂ s₃ (Core c) = up_frame r fqc c s₁ s₂ s₃
-frame_of r fqc s₁ s₂ s₃ (Empty q) = frame_by 15 q 0 0 []
+-- the frame that is then to be written: a combination's, which has a core, or one of type 15
+abbrev pub frame_of : (request fqc : ℕ) → (s₁ s₂ s₃ : List ℕ) → Option Combination → Frame
+frame_of r fqc s₁ s₂ s₃ (Some c) = up_frame r fqc c s₁ s₂ s₃
+frame_of r fqc s₁ s₂ s₃ None = frame_by 15 (cond (eqb fqc 0) 1 0) 0 0 []
 
 -- what is written into room octets
-abbrev pub writes : (request fqc : ℕ) → (s₁ s₂ s₃ : List ℕ) → Result Judged Refusal → (room : ℕ) → Outcome (List ℕ)
+abbrev pub writes : (request fqc : ℕ) → (s₁ s₂ s₃ : List ℕ) → Result (Option Combination) Refusal → (room : ℕ) → Outcome (List ℕ)
 writes r fqc s₁ s₂ s₃ j room = and_then (outcome_of (frame_of r fqc s₁ s₂ s₃) j) (λ x. written x room)
 
 -- what is known of it
@@ -37,7 +35,6 @@ pub record HasCore (c : Combination) (s₁ s₂ s₃ : List ℕ) : Type 0 where
   pub type : c.frame_type ≤ 9
   pub flows : subflows_good c s₁ s₂ s₃ ≡ true
 
-pub record Judges (l : Link) (fqc rfci : ℕ) (s₁ s₂ s₃ : List ℕ) (r : Result Judged Refusal) : Type 0 where
+pub record Judges (l : Link) (fqc rfci : ℕ) (s₁ s₂ s₃ : List ℕ) (r : Result (Option Combination) Refusal) : Type 0 where
   pub call : (room : ℕ) → writes l.request fqc s₁ s₂ s₃ r room ≡ up_call l fqc rfci s₁ s₂ s₃ room
-  pub core : (c : Combination) → r ≡ Ok (Core c) → HasCore c s₁ s₂ s₃
-  pub quality : (q : ℕ) → r ≡ Ok (Empty q) → q < 2
+  pub core : (c : Combination) → r ≡ Ok (Some c) → HasCore c s₁ s₂ s₃

@@ -2,21 +2,14 @@
 #![tactic(auto)]
 
 ghost use Rattle.std.specs.Prelude.{◌≡◌, cond, ◌<◌, eqb};
+ghost use Rattle.links.specs.Answers.{fqc_number};
 ghost use Rattle.links.specs.Calls.{subflow_good, subflows_good};
 ghost use Rattle.uplink_judge.specs.Judging.{picked, picked_of, Judges};
 
 use combinations::{HIGHEST_RFCI, lookup_rfci};
 use frame::{Refusal, SID};
 use frame_builder::core_fill_clear;
-use links::{Combination, Link};
-
-// FQC: good, and bad, of which nothing is read. 3 is reserved. Numbers and no enum: a caller hands a number in, 3 is refused only behind
-// the set's test, and the frame has its quality as a number.
-const GOOD: u64 = 0;
-
-const BAD: u64 = 1;
-
-const RESERVED: u64 = 3;
+use links::{Combination, Fqc, Link};
 
 // The octets of the three sub-flows.
 #[derive(Clone, Copy)]
@@ -24,13 +17,6 @@ pub struct SubflowOctets<'a> {
     pub s1: &'a [u8],
     pub s2: &'a [u8],
     pub s3: &'a [u8],
-}
-
-// What is to be written: the frame of a combination that has a core, or a frame of type 15 by its quality.
-#[derive(Clone, Copy)]
-pub enum Judged {
-    Core(Combination),
-    Empty(u8),
 }
 
 // A sub-flow has exactly its octets, and its filling is 0.
@@ -47,44 +33,47 @@ fn subflows_good(c: Combination, s: SubflowOctets<'_>) -> bool
     subflow_good(s.s1, c.size1) && subflow_good(s.s2, c.size2) && subflow_good(s.s3, c.size3)
 }
 
-// The quality of an FQC of which the sub-flows are read.
-pub fn quality_of(fqc: u64) -> u8
-    ensures { (result ≡ cond (eqb fqc 0) 1 0) × (result < 2) }
+// The quality that an FQC gives.
+pub fn quality_of(fqc: Fqc) -> u8
+    ensures { (result ≡ cond (eqb (fqc_number fqc) 0) 1 0) × (result < 2) }
 {
-    u8::from(fqc == GOOD)
+    u8::from(fqc == Fqc::Good)
 }
 
 // The combination of an RFCI, or why Up is refused before a sub-flow is read.
 #[tactic(auto, using(std::proofs::lemmas::Bool::Decides::nat_tests), unfolding(crate::specs::Judging::picked))]
-fn pick(link: &Link, fqc: u64, rfci: u64) -> Result<Combination, Refusal>
-    ensures { picked_of result ≡ picked link.now fqc rfci }
+fn pick(link: &Link, fqc: Fqc, rfci: u64) -> Result<Combination, Refusal>
+    ensures { picked_of result ≡ picked link.now (fqc_number fqc) rfci }
 {
-    if RESERVED < fqc || HIGHEST_RFCI < rfci {
+    if HIGHEST_RFCI < rfci {
         return Err(Refusal::ArgumentRange);
     }
     if link.set.count == 0 {
         return Err(Refusal::NoSet);
     }
-    if fqc == RESERVED {
+    if fqc == Fqc::Reserved {
         return Err(Refusal::FqcReserved);
     }
     lookup_rfci(&link.set, rfci as u8).ok_or(Refusal::NotInSet)
 }
 
-// What Up is to write. Three functions and not one, since the compiler takes a call behind many tests for a rare one, and leaves it a call.
-pub fn judge(link: Link, fqc: u64, rfci: u64, s: SubflowOctets<'_>) -> Result<Judged, Refusal>
-    ensures { Judges link fqc rfci s.entry.s1.now s.entry.s2.now s.entry.s3.now result }
+// What Up is to write: the frame of a combination that has a core, or none, a frame of type 15 with the FQC's quality. Of a bad frame
+// no sub-flow is read. Three functions and not one, since the compiler takes a call behind many tests for a rare one, and leaves it a call.
+pub fn judge(
+    link: Link,
+    fqc: Fqc,
+    rfci: u64,
+    s: SubflowOctets<'_>,
+) -> Result<Option<Combination>, Refusal>
+    ensures { Judges link (fqc_number fqc) rfci s.entry.s1.now s.entry.s2.now s.entry.s3.now result }
 {
     let c = pick(&link, fqc, rfci)?;
-    if fqc == BAD {
-        return Ok(Judged::Empty(0));
+    if fqc == Fqc::Bad {
+        return Ok(None);
     }
     if !subflows_good(c, s) {
         return Err(Refusal::SubflowBuffer);
     }
-    if u64::from(c.frame_type) <= SID {
-        Ok(Judged::Core(c))
-    } else {
-        Ok(Judged::Empty(quality_of(fqc)))
-    }
+    let has_core = u64::from(c.frame_type) <= SID;
+    Ok(has_core.then_some(c))
 }
