@@ -14,14 +14,7 @@ use downlink_flows::{Subflows, is_roomy, put_subflows, subflows_of};
 use frame::table::header_bits;
 use frame::{Format, FrameHeader, Refusal};
 use frame_reader::read_if1;
-use links::Link;
-
-// The answer, and the state after the call.
-#[derive(Clone, Copy)]
-pub struct DownAnswer {
-    pub answer: Result<Subflows, Refusal>,
-    pub link: Link,
-}
+use links::{Answered, Link};
 
 // Splits a frame that was read, with the header `h`.
 fn split_read(
@@ -80,12 +73,18 @@ pub fn forwarded_after(last: u16, d: Result<Subflows, Refusal>) -> u16
 }
 
 // Splits an IF1 frame, and records a request that is forwarded. An entry.
-pub fn down(link: Link, frame: &[u8], s1: &mut [u8], s2: &mut [u8], s3: &mut [u8]) -> DownAnswer
+pub fn down(
+    link: Link,
+    frame: &[u8],
+    s1: &mut [u8],
+    s2: &mut [u8],
+    s3: &mut [u8],
+) -> Answered<Subflows>
     ensures { DownInto (down_call link frame.now (length s1.old) (length s2.old) (length s3.old)) link s1.old s1.new s2.old s2.new s3.old s3.new result }
 {
     let answer = split_frame(link, frame, s1, s2, s3);
     let forwarded = forwarded_after(link.forwarded, answer);
-    DownAnswer {
+    Answered {
         answer,
         link: Link { forwarded, ..link },
     }

@@ -2,6 +2,7 @@
 use Rattle.std.specs.Prelude.{◌≡◌, Bool, List, ◌++◌, ℕ, ◌+◌, length, take, drop, Option, Some, None}
 use Rattle.bits.specs.Bits.{pack, octets_for}
 use Rattle.links.specs.declared.Combination.{Combination}
+use Rattle.links.specs.Answers.{fqc_number}
 use Rattle.links.specs.Calls as paper
 use Rattle.downlink_flows.specs.declared.Subflows.{Subflows}
 
@@ -30,7 +31,7 @@ forward_of (Some r) = paper.request r
 
 abbrev pub subflows_of : Subflows → Numbers
 subflows_of s = record {
-  fqc = s.fqc;
+  fqc = fqc_number s.fqc;
   rfci = s.rfci;
   octets1 = s.octets1;
   octets2 = s.octets2;

@@ -9,7 +9,6 @@ ghost use Rattle.answers.specs.Flat.{FlatOutput};
 ghost use Rattle.link_answers.specs.Flat.{link_numbers, FlatDown};
 
 use answers::Answer;
-use downlink::DownAnswer;
 // Level two's calls, as they are there.
 pub use level_two::{
     amrwb_build_if1, amrwb_build_if2, amrwb_build_stored, amrwb_class, amrwb_convert,
@@ -17,7 +16,7 @@ pub use level_two::{
     amrwb_validate, amrwb_view_next, amrwb_view_open,
 };
 use link_answers::{DownNumbers, LinkAnswer, moved_answer};
-use links::Link;
+use links::{Answered, Link};
 use uplink_judge::SubflowOctets;
 
 // ---- the link
@@ -74,5 +73,5 @@ pub fn amrwb_link_down(
     let answer = downlink::split_frame(link, frame, s1, s2, s3);
     let forwarded = downlink::forwarded_after(link.forwarded, answer);
     let link = Link { forwarded, ..link };
-    DownAnswer { answer, link }.into()
+    Answered { answer, link }.into()
 }

@@ -6,10 +6,9 @@ ghost use Rattle.link_state.specs.Answers.{moved_of};
 ghost use Rattle.downlink.specs.Answers.{down_of};
 ghost use Rattle.link_answers.specs.Flat.{link_numbers, down_numbers};
 
-use downlink::DownAnswer;
 use downlink_flows::Subflows;
 use frame::Refusal;
-use links::Link;
+use links::{Answered, Link};
 
 // Whether a call that changes the state was accepted, and the state after it. C fixes the layout, here and below.
 #[repr(C)]
@@ -38,7 +37,8 @@ pub struct DownNumbers {
     pub link: Link,
 }
 
-// The answer of a call that changes the state `link`: the state after it is the answer's, or after a refusal `link`.
+// The answer of a call that changes the state `link`: the state after it is the answer's, or after a refusal `link`. No From, which takes
+// one value: this is made of two, the state before the call and the answer.
 pub fn moved_answer(link: Link, r: Result<Link, Refusal>) -> LinkAnswer
     ensures { result ≡ link_numbers (moved_of link r) }
 {
@@ -50,10 +50,11 @@ pub fn moved_answer(link: Link, r: Result<Link, Refusal>) -> LinkAnswer
     }
 }
 
-impl From<DownAnswer> for DownNumbers {
+// Casts: between usize and u64 there is no From; both have 64 bits.
+impl From<Answered<Subflows>> for DownNumbers {
     ghost from_gives = { λ d n. n ≡ down_numbers (down_of d.answer) d.link };
 
-    fn from(d: DownAnswer) -> DownNumbers {
+    fn from(d: Answered<Subflows>) -> DownNumbers {
         let s = d.answer.unwrap_or_default();
         DownNumbers {
             refusal: d.answer.err().map_or(0, u64::from),
