@@ -1,39 +1,20 @@
--- The tests are the definition's, each sub-flow is put into the front of its buffer, and what is said is the definition's. Assumes nothing.
+-- A sub-flow of no bits, the octets of a part of a core, and that what is said is the definition's. Assumes nothing.
 use mathlib.Core.Path.{◌≡◌, sym, ap, ◌∙◌}
-use mathlib.Core.Bool.{Bool, true, cond}
+use mathlib.Core.Bool.{Bool, cond}
 use mathlib.Core.List.{List, ◌++◌}
-use Prim.Native.Nat.{ℕ, ◌+◌, ◌*◌, ◌≤◌}
+use Prim.Native.Nat.{ℕ, ◌+◌, ◌≤◌}
 use native.Mathlib.Omega.{arith}
-use lib.Dec.{eqb, leb}
+use lib.Dec.{eqb}
 use lib.ListN.{length, take, drop, length-drop}
-use lib.Seq.{drop-drop, length-take-le}
-use borrow.Author.Tests.{leb-true}
+use lib.Seq.{length-take-le}
 use Rattle.bits.specs.Bits.{packs, pack, octets_for}
 use Rattle.bits.proofs.BitLaws.{length-pack}
-use Rattle.bits.proofs.Tests.{and_left, and_right}
 use Rattle.frame.specs.Answers.{frame_with}
 use Rattle.frame.specs.declared.FrameHeader.{FrameHeader}
 use Rattle.links.specs.declared.Combination.{Combination}
 use Rattle.links.specs.declared.Link.{Link}
-use Rattle.links.specs.Calls.{Forward, nothing, request, forwards, split, roomy}
+use Rattle.links.specs.Calls.{Forward, nothing, request, forwards, split}
 use Rattle.downlink_flows.specs.Answers.{numbers}
-
--- ---- the tests
-
-module _ (c : Combination) (m₁ m₂ m₃ : ℕ) where
-  pub record Roomy : Type 0 where
-    pub first : c.size1 ≤ 8 * m₁
-    pub second : c.size2 ≤ 8 * m₂
-    pub third : c.size3 ≤ 8 * m₃
-
-  pub roomy-known : roomy c m₁ m₂ m₃ ≡ true → Roomy
-  roomy-known h =
-      let g = and_right (leb (octets_for c.size1) m₁) _ h in
-      record {
-        first = omega (arith, leb-true (octets_for c.size1) m₁ (and_left _ _ h));
-        second = omega (arith, leb-true (octets_for c.size2) m₂ (and_left _ _ g));
-        third = omega (arith, leb-true (octets_for c.size3) m₃ (and_right (leb (octets_for c.size2) m₂) _ g));
-      }
 
 -- ---- the sub-flows
 
@@ -41,12 +22,6 @@ module _ (c : Combination) (m₁ m₂ m₃ : ℕ) where
 pub none-put : (bs : List Bool) (from n : ℕ) (d : List ℕ) → n ≡ 0 → d ≡ pack (take n (drop from bs)) ++ drop (octets_for n) d
 unfolding packs pack
 none-put bs from n d z = sym (ap (λ n. pack (take n (drop from bs)) ++ drop (octets_for n) d) z)
-
--- a run that begins behind the skipped bits of a core
-pub flow_put : (bs : List Bool) (at from skip n : ℕ) (d₀ d : List ℕ) → at ≡ from + skip → d ≡ pack (take n (drop at bs)) ++ drop (octets_for n) d₀
-    → d ≡ pack (take n (drop skip (drop from bs))) ++ drop (octets_for n) d₀
-flow_put bs at from skip n d₀ d h e =
-    e ∙ ap (λ l. pack (take n l) ++ drop (octets_for n) d₀) (ap (λ k. drop k bs) h ∙ sym (drop-drop skip from bs))
 
 -- a part's octets
 pub length_part : (m n : ℕ) (l : List Bool) → m + n ≤ length l → length (pack (take n (drop m l))) ≡ octets_for n

@@ -50,7 +50,7 @@ pub fn moved_answer(link: Link, r: Result<Link, Refusal>) -> LinkAnswer
     }
 }
 
-// Casts: between usize and u64 there is no From; both have 64 bits.
+// Casts: between usize and u64 there is no From; both have 64 bits, so none loses any.
 impl From<Answered<Subflows>> for DownNumbers {
     ghost from_gives = { λ d n. n ≡ down_numbers (down_of d.answer) d.link };
 

@@ -1,7 +1,7 @@
 -- Runs of bits put one behind the other are the packed core, and of a packed core the builder judges 6 and 10 alone. Assumes nothing.
 use mathlib.Core.Path.{◌≡◌, refl, sym, ap, ap₂, subst, ◌∙◌}
 use mathlib.Core.Bool.{Bool, true, false, ◌&&◌, cond}
-use mathlib.Core.List.{List, [], ◌++◌, append_assoc, append-nil}
+use mathlib.Core.List.{List, [], ◌++◌, append_assoc}
 use Prim.Native.Nat.{ℕ, ◌+◌, ◌-◌, ◌*◌, ◌<◌, ◌≤◌}
 use native.Mathlib.Nat.{zero-add}
 use native.Mathlib.Omega.{arith}
@@ -57,13 +57,6 @@ put-behind x y d₀ d e at n l k h put =
     ∙ drop-drop (octets_for (at + n) - octets_for at) (octets_for at) d₀
     ∙ ap (λ m. drop m d₀) {x = octets_for at + (octets_for (at + n) - octets_for at)} {y = octets_for (at + n)} (omega arith) in
     put ∙ ap₂ (λ l r. pack (l ++ y) ++ r) front behind
-
--- no bits put behind others
-pub none-behind : (x z : List Bool) (d₀ d : List ℕ) (at n : ℕ) → n ≡ 0 → d ≡ pack x ++ drop (octets_for at) d₀
-    → d ≡ pack (x ++ take n z) ++ drop (octets_for (at + n)) d₀
-none-behind x z d₀ d at n e h =
-    let same : at ≡ at + n = omega arith in
-    h ∙ ap₂ (λ l m. pack l ++ drop (octets_for m) d₀) (sym (ap (λ n. x ++ take n z) e ∙ append-nil x)) same
 
 pub joins : (c : Combination) (s₁ s₂ s₃ d₀ d₁ d₂ d₃ : List ℕ) → Joinable c s₁ s₂ s₃ d₀
     → ((x : List Bool) (d : List ℕ) → length x ≡ 0 → d₀ ≡ pack x ++ drop (octets_for 0) d → d₁ ≡ pack (x ++ take c.size1 (bits s₁)) ++ drop (octets_for (0 + c.size1)) d)

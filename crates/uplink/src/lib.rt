@@ -76,6 +76,7 @@ fn build_joined(
         frame_type: t,
         quality: quality_of(fqc),
         indication: i,
+        // Judged to be 8 at most: by try_from there would be one more test, and an error that cannot be.
         request: request as u8,
     };
     write_modes(h, &core, 0, out);

@@ -54,6 +54,7 @@ fn pick(link: &Link, fqc: Fqc, rfci: u64) -> Result<Combination, Refusal>
     if fqc == Fqc::Reserved {
         return Err(Refusal::FqcReserved);
     }
+    // The cast loses nothing behind the first test; by try_from there would be one more, and an error that cannot be.
     lookup_rfci(&link.set, rfci as u8).ok_or(Refusal::NotInSet)
 }
 

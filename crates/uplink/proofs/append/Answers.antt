@@ -4,7 +4,7 @@ use lib.ListN.{take}
 use lib.Seq.{length-take-le}
 use Rattle.bits.specs.Bits.{bits}
 use Rattle.bits.proofs.BitLaws.{length-bits}
-use Rattle.uplink.proofs.UpLaws.{put-behind, none-behind}
+use Rattle.uplink.proofs.UpLaws.{put-behind}
 use Rattle.uplink.proofs.append.Goals as goal
 
 pub returns-then-size-gt0 : goal.returns-then-size-gt0
@@ -13,6 +13,3 @@ returns-then-size-gt0 c =
     let a = c.args in
     put-behind x (take a.size (bits a.s.now)) d a.core.now _ a.at a.size (length-take-le a.size (bits a.s.now) (omega (arith, length-bits a.s.now, c.requires.0))) l e
     (rw c.from.ensures at c.put_run.ensures)
-
-pub returns-else-size-gt0 : goal.returns-else-size-gt0
-returns-else-size-gt0 c = λ x d l e. let a = c.args in none-behind x (bits a.s.now) d a.core.now a.at a.size (omega arith) e
