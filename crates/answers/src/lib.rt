@@ -1,5 +1,6 @@
-// The answers that the levels of the C interface share (include/amrwb.h), and how the entries' answers become them. Each has its refusal, frame
-// and octet as fields of its own, since a C struct's layout is fixed.
+// The answers that the levels of the C interface share (include/amrwb.h), and how the entries' answers become them. Each has a number for each
+// thing, and 0 for what is not there: to C no export hands out an enum, which Result and Option are too. Refusal, frame and octet are fields
+// of each, as C declares them: a struct of the three would lie there alike, but be one name more in every place that reads one.
 #![tactic(auto)]
 
 ghost use Rattle.std.specs.Prelude.{◌≡◌, List, Bool, ℕ};
@@ -36,6 +37,7 @@ pub struct FrameAnswer {
     pub core_octets: u64,
 }
 
+// A refusal outside a recording; below the same for a frame. A function for both would need a trait with the field that it sets.
 impl From<Refusal> for Answer {
     ghost from_gives = { λ e a. a ≡ answer_numbers (refused (number_of e)) };
 

@@ -1,5 +1,6 @@
 // Level one's C interface (include/amrwb.h): recordings and single frames in IF1 and IF2. Each function calls one entry and hands its answer
-// on as numbers. Every public function is an entry; crates/level_one_c exports them.
+// on as numbers. Every public function is an entry; crates/level_one_c exports them. Level two's functions of these names take format 3, which
+// these refuse: so each has a contract of its own, and calls the entry itself, which is one line, as a call of the other level's would be.
 #![tactic(auto)]
 
 ghost use Rattle.std.specs.Prelude.{◌≡◌, ◌&&◌, leb, length};
@@ -11,7 +12,7 @@ ghost use Rattle.level_one.specs.Formats.{validate_one, convert_one, length_one,
 use answers::{Answer, FrameAnswer};
 use frame::{Format, Refusal};
 
-// The highest number of a format that level one has.
+// The highest number of a format that level one has. It bounds the number that C hands in, of which the entry makes a `Format`.
 const LAST_FORMAT: u64 = 2;
 
 // Both formats are level one's.

@@ -1,5 +1,6 @@
 // Level two's C interface (include/amrwb.h): each function calls one entry and hands its answer on as numbers, as specs/Flat.antt says.
-// Every public function is an entry, and so are the two of level one's that are the same here; crates/level_two_c exports them.
+// Every public function is an entry, and so are the two of level one's that are the same here; crates/level_two_c exports them. The answers
+// are structs with a number for each thing, and 0 for what is not there: to C no export hands out an enum, which Result and Option are too.
 #![tactic(auto)]
 
 ghost use Rattle.std.specs.Prelude.{◌≡◌, length};
@@ -14,14 +15,16 @@ ghost use Rattle.recordings.specs.Report.{report_call};
 ghost use Rattle.frame.specs.Answers.{number_of};
 ghost use Rattle.answers.specs.Flat.{placed_numbers, FlatConversion, FlatOutput, FlatFrame};
 ghost use Rattle.level_two.specs.Flat.{class_number, class_numbers, unshown, open_numbers, FlatView, report_numbers};
-ghost use Rattle.reception.specs.Classes.{reception_of};
+ghost use Rattle.reception.specs.Classes.{reception_of, classified_of};
+ghost use Rattle.report.specs.Answers.{reported_of};
 
 use answers::{Answer, FrameAnswer};
 use frame::table::core_octets;
-use frame::{Format, SID};
+use frame::{Format, Refusal, SID};
 pub use level_one::{amrwb_build_if1, amrwb_build_if2};
 use reception::{Reception, SidClass, SpeechClass};
 use recording_reader::RefusedAt;
+use report::Reported;
 use viewer::Place;
 
 // A reception class by its number; or a refusal.
@@ -66,6 +69,38 @@ pub struct ReportAnswer {
     pub empty: u64,
 }
 
+// The C interface's number for a class. No `From`: neither type is this crate's, and in crate reception it would be about C.
+fn class_number(c: Reception) -> u64
+    ensures { result ≡ class_number (reception_of c) }
+{
+    match c {
+        Reception::Speech(SpeechClass::Good) => 1,
+        Reception::Speech(SpeechClass::Bad) => 2,
+        Reception::Sid(SidClass::First) => 3,
+        Reception::Sid(SidClass::Update) => 4,
+        Reception::Sid(SidClass::Bad) => 5,
+        Reception::SpeechLost => 6,
+        Reception::NoData => 7,
+    }
+}
+
+impl From<Result<Reception, Refusal>> for ClassAnswer {
+    ghost from_gives = { λ r a. a ≡ class_numbers (classified_of r) };
+
+    fn from(r: Result<Reception, Refusal>) -> ClassAnswer {
+        match r {
+            Ok(c) => ClassAnswer {
+                class: class_number(c),
+                ..ClassAnswer::default()
+            },
+            Err(e) => ClassAnswer {
+                refusal: u64::from(e),
+                ..ClassAnswer::default()
+            },
+        }
+    }
+}
+
 // A place, and no frame.
 impl From<Place> for ViewAnswer {
     ghost from_gives = { λ p a. a ≡ unshown 0 0 0 0 p.number p.offset };
@@ -88,6 +123,30 @@ impl From<RefusedAt> for ViewAnswer {
             frame: e.frame,
             octet: e.octet,
             ..ViewAnswer::default()
+        }
+    }
+}
+
+impl From<Reported> for ReportAnswer {
+    ghost from_gives = { λ r a. a ≡ report_numbers (reported_of r) };
+
+    fn from(r: Reported) -> ReportAnswer {
+        match r {
+            Ok(r) => ReportAnswer {
+                octets: r.octets as u64,
+                frames: r.frames as u64,
+                speech: r.speech as u64,
+                comfort: r.sid as u64,
+                lost: r.speech_lost as u64,
+                empty: r.no_data as u64,
+                ..ReportAnswer::default()
+            },
+            Err(e) => ReportAnswer {
+                refusal: u64::from(e.refusal),
+                frame: e.frame,
+                octet: e.octet,
+                ..ReportAnswer::default()
+            },
         }
     }
 }
@@ -134,34 +193,10 @@ pub fn amrwb_order_to_row(mode: u64, core: &[u8], row: &mut [u8]) -> Answer
     codec_order::order_to_row(mode, core, row).into()
 }
 
-// The number that stands for a class in the C interface.
-fn class_number(c: Reception) -> u64
-    ensures { result ≡ class_number (reception_of c) }
-{
-    match c {
-        Reception::Speech(SpeechClass::Good) => 1,
-        Reception::Speech(SpeechClass::Bad) => 2,
-        Reception::Sid(SidClass::First) => 3,
-        Reception::Sid(SidClass::Update) => 4,
-        Reception::Sid(SidClass::Bad) => 5,
-        Reception::SpeechLost => 6,
-        Reception::NoData => 7,
-    }
-}
-
 pub fn amrwb_class(frame_type: u64, quality: u64, sti: u64) -> ClassAnswer
     ensures { result ≡ class_numbers (reception_class frame_type quality sti) }
 {
-    match reception::reception_class(frame_type, quality, sti) {
-        Ok(c) => ClassAnswer {
-            class: class_number(c),
-            ..ClassAnswer::default()
-        },
-        Err(e) => ClassAnswer {
-            refusal: u64::from(e),
-            ..ClassAnswer::default()
-        },
-    }
+    reception::reception_class(frame_type, quality, sti).into()
 }
 
 // The octets of a packed core; types above a SID frame's have none.
@@ -194,8 +229,10 @@ pub fn amrwb_view_next(
 ) -> ViewAnswer
     ensures { FlatView (view_call format offset number rec.now (length core.old)) (number, offset) core.old core.new result }
 {
+    // No `From`: at the end and at a refusal the place stays, which the entry's answer does not hold.
     let place = Place { number, offset };
     match viewer::view_next(format, place, rec, core) {
+        // The header's fields as in a `FrameAnswer`: C declares each struct by itself, and a part in common would be one more struct.
         Ok(Some((h, behind))) => ViewAnswer {
             frame_type: u64::from(h.frame_type),
             quality: u64::from(h.quality),
@@ -219,21 +256,5 @@ pub fn amrwb_view_next(
 pub fn amrwb_report(rec: &[u8]) -> ReportAnswer
     ensures { result ≡ report_numbers (report_call rec.now) }
 {
-    match report::report_recording(rec) {
-        Ok(r) => ReportAnswer {
-            octets: r.octets as u64,
-            frames: r.frames as u64,
-            speech: r.speech as u64,
-            comfort: r.sid as u64,
-            lost: r.speech_lost as u64,
-            empty: r.no_data as u64,
-            ..ReportAnswer::default()
-        },
-        Err(e) => ReportAnswer {
-            refusal: u64::from(e.refusal),
-            frame: e.frame,
-            octet: e.octet,
-            ..ReportAnswer::default()
-        },
-    }
+    report::report_recording(rec).into()
 }
