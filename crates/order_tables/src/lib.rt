@@ -12,6 +12,7 @@ use crate::tables::{TABLE_0, TABLE_1, TABLE_2, TABLE_3, TABLE_4};
 use ordering::{core_by, row_by};
 
 // The table of a mode.
+#[tactic(auto, unfolding(definitions::specs::Order::order_table, definitions::specs::Tables::table0, definitions::specs::Tables::table1, definitions::specs::Tables::table2, definitions::specs::Tables::table3, definitions::specs::Tables::table4))]
 fn table_of(mode: u64) -> &'static [u16]
     requires { mode ≤ 4 }
     ensures { result.now ≡ order_table mode }
@@ -25,7 +26,9 @@ fn table_of(mode: u64) -> &'static [u16]
     }
 }
 
-// The core of a row by its mode's table, and below the row of a core.
+// The core of a row by its mode's table, and below the row of a core: a line each, which one function for both would have, and take besides
+// which way it goes.
+#[tactic(auto, using(crate::proofs::ModeLaws::core_asked))]
 pub fn put_core(mode: u64, row: &[u8], core: &mut [u8])
     requires { RowReady mode row.now core.old }
     ensures { core.new ≡ with_core mode row.now core.old }
@@ -33,6 +36,7 @@ pub fn put_core(mode: u64, row: &[u8], core: &mut [u8])
     core_by(table_of(mode), row, core)
 }
 
+#[tactic(auto, using(crate::proofs::ModeLaws::row_asked, crate::proofs::ModeLaws::row_put))]
 pub fn put_row(mode: u64, core: &[u8], row: &mut [u8])
     requires { CoreReady mode core.now row.old }
     ensures { row.new ≡ with_row mode core.now row.old }
