@@ -60,7 +60,7 @@ impl From<Refusal> for FrameAnswer {
     }
 }
 
-// A call over a recording.
+// A call over a recording. Its counts, and those below, are cast, since u64 has no `From` of a usize.
 impl From<Result<Counts, RefusedAt>> for Answer {
     ghost from_gives = { λ r a. a ≡ placed_numbers (counts_of r) };
 

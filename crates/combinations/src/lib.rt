@@ -37,7 +37,7 @@ pub fn combination_good(c: Combination) -> bool
 
 // ---- lookup
 
-// The first good combination of the set that a test picks.
+// The first good combination of the set that a test picks. The count is a cast, since usize has no `From` of a u32; it loses nothing.
 fn first_good<F: Fn(Combination) -> bool>(set: &RfcSet, picks: F) -> Option<Combination>
     requires { F.IsAlwaysCallable picks }
     ensures { (k : Key) (n : ℕ) → ((c : Combination) (b : Bool) → F.post picks c b → b ≡ has k n c) → found_of 16 result ≡ lookup k n (combinations set.now) }

@@ -127,6 +127,7 @@ impl From<RefusedAt> for ViewAnswer {
     }
 }
 
+// The counts are cast, and `packed_octets`' below, since u64 has no `From` of a usize.
 impl From<Reported> for ReportAnswer {
     ghost from_gives = { λ r a. a ≡ report_numbers (reported_of r) };
 

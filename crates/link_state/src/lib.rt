@@ -44,6 +44,7 @@ fn is_apart(c: Combination, others: &[Combination]) -> bool
 }
 
 // The set of the combinations that numbers write, five for each, if it is a good one.
+#[tactic(auto, using(crate::proofs::RowLaws::not_whole, crate::proofs::RowLaws::too_few, crate::proofs::RowLaws::too_many, crate::proofs::RowLaws::stored_next, crate::proofs::RowLaws::good_next))]
 fn set_in(numbers: &[u64]) -> Option<RfcSet>
     ensures { result ≡ set_of numbers.now }
 {
@@ -59,6 +60,7 @@ fn set_in(numbers: &[u64]) -> Option<RfcSet>
         }
         places[n] = c;
     }
+    // At most PLACES: the cast loses nothing.
     let count = rows.len() as u32;
     Some(RfcSet { places, count })
 }
@@ -108,6 +110,7 @@ pub fn rate_command(link: Link, mode: u64) -> Result<Link, Refusal>
     if HIGHEST_MODE < mode {
         return Err(Refusal::ArgumentRange);
     }
+    // At most HIGHEST_MODE: the cast loses nothing.
     let request = mode as u16;
     Ok(Link { request, ..link })
 }

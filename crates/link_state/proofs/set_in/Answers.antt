@@ -1,24 +1,10 @@
 -- `link_state::set_in` meets its contract: the combinations of the rows so far are good, and stored in the first places. Assumes nothing.
-use Rattle.std.proofs.Common.{◌≡◌, ◌≤◌, ◌+◌, length, sym, ap, ◌∙◌, Some, map, take, arith}
+use Rattle.std.proofs.Common.{◌≡◌, ◌+◌, length, sym, ap, ◌∙◌, Some, map, take, arith}
 use Rattle.std.proofs.lemmas.Bool.Decides.{nat_tests}
 use Rattle.links.specs.Sets.{all_good}
 use Rattle.link_state.specs.Answers.{five}
-use Rattle.link_state.proofs.RowLaws.{stored, not_good, not_apart, good_next, stored_next, not_whole, too_few, too_many, wrong, right}
+use Rattle.link_state.proofs.RowLaws.{stored, not_good, not_apart, wrong, right}
 use Rattle.link_state.proofs.set_in.Goals as goal
-use Rattle.link_state.proofs.set_in.Goals.{then-not-is_empty-via-then-not-is_empty, then-not-is_empty-via-else-not-is_empty+then-is_empty}
-use Rattle.link_state.proofs.set_in.Goals.{then-not-is_empty-via-else-not-is_empty+else-is_empty+then-rows-gt-PLACES}
-
-pub returns-then-not-is_empty : goal.returns-then-not-is_empty
-returns-then-not-is_empty c =
-    let ns = c.args.numbers.now in
-    let k = c.as_chunks.ensures in
-    elim c.then-not-is_empty.branch [
-      | then-not-is_empty-via-then-not-is_empty w ↦ not_whole ns _ k.front k.front_len (grind (arith, nat_tests))
-      | then-not-is_empty-via-else-not-is_empty+then-is_empty w ↦
-          too_few ns _ k.front k.front_len (grind (arith, nat_tests)) (grind (arith, nat_tests))
-      | then-not-is_empty-via-else-not-is_empty+else-is_empty+then-rows-gt-PLACES w ↦
-          too_many ns _ k.front k.front_len (grind (arith, nat_tests)) (omega arith)
-    ]
 
 pub returns-in_err-c : goal.returns-in_err-c
 returns-in_err-c c =
@@ -35,18 +21,6 @@ returns-then-not-is_apart c =
     wrong c.args.numbers.now _ k.front k.front_len (grind (arith, nat_tests)) (l.n + 1)
     (not_apart _ c.if-rows-gt-PLACES.false l.n c.loop-n-test.true l.places l.invariant.held l.invariant.good
     c.in_ok-c.c c.in_ok-c.ensures c.if-not-is_apart.ensures)
-
-pub loop-n-preserved : goal.loop-n-preserved
-loop-n-preserved c =
-    let l = c.loop-n in
-    let rows = c.as_chunks.result.0.now in
-    let k : length rows ≤ 11 = c.if-rows-gt-PLACES.false in
-    record {
-      held = stored_next rows k l.n c.loop-n-test.true l.places l.invariant.held c.in_ok-c.c c.in_ok-c.ensures;
-      good =
-          good_next rows k l.n c.loop-n-test.true l.places l.invariant.held l.invariant.good
-          c.in_ok-c.c c.in_ok-c.ensures c.if-not-is_apart.ensures;
-    }
 
 pub returns : goal.returns
 returns c =
