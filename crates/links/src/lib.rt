@@ -42,7 +42,7 @@ pub struct Combination {
 #[repr(C)]
 #[derive(Clone, Copy, Default)]
 pub struct RfcSet {
-    pub places: [Combination; 11],
+    pub places: [Combination; PLACES],
     pub count: u32,
 }
 
