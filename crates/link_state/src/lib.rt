@@ -10,7 +10,7 @@ ghost use Rattle.combinations.specs.Answers.{found_of};
 ghost use Rattle.link_state.specs.Answers.{moved_of, five, set_of};
 
 use combinations::combination_good;
-use frame::{HIGHEST_MODE, Refusal};
+use frame::{Refusal, mode_numbered};
 use links::{Combination, Link, NO_REQUEST, PLACES, RfcSet};
 
 // How many numbers a combination is written by.
@@ -107,10 +107,6 @@ pub fn release(link: Link) -> Result<Link, Refusal>
 pub fn rate_command(link: Link, mode: u64) -> Result<Link, Refusal>
     ensures { moved_of link result ≡ call.link_step link (call.rate mode) }
 {
-    if HIGHEST_MODE < mode {
-        return Err(Refusal::ArgumentRange);
-    }
-    // At most HIGHEST_MODE: the cast loses nothing.
-    let request = mode as u16;
+    let request = u16::from(mode_numbered(mode)?);
     Ok(Link { request, ..link })
 }
