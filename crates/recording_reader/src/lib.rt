@@ -2,13 +2,12 @@
 // functions, `Counts` and `RefusedAt` are for the crates that convert, report and view.
 #![tactic(auto)]
 
-ghost use Rattle.std.specs.Prelude.{◌≡◌, ℕ, ◌≤◌, length, take};
-ghost use Rattle.definitions.specs.Frames.{storage};
-ghost use Rattle.recordings.specs.Placed.{done, and_then_at};
-ghost use Rattle.recordings.specs.Recordings.{limit, file_header, same_octets, headed, scan_frames, read_recording, validate_call};
+ghost use Rattle.std.specs.Prelude.{◌≡◌, ℕ, ◌≤◌, leb, length};
+ghost use Rattle.recordings.specs.Placed.{done, unless_at, and_then_at};
+ghost use Rattle.recordings.specs.Recordings.{limit, file_header, headed, scan_frames, read_recording, validate_call};
 ghost use Rattle.recordings.specs.Conversion.{converted};
 ghost use Rattle.frame.specs.Answers.{format_of};
-ghost use Rattle.recording_reader.specs.Answers.{outside, counts_of};
+ghost use Rattle.recording_reader.specs.Answers.{outside, placed_of, counts_of};
 
 use frame::table::octets_of;
 use frame::{Format, Refusal};
@@ -58,21 +57,27 @@ pub fn header_octets(f: Format) -> usize
     }
 }
 
-// The recording begins with the file header of storage format. `pub` for the report, which is over that format only.
-pub fn has_file_header(s: &[u8]) -> bool
-    ensures { result ≡ same_octets (take 9 s.now) (file_header storage) }
-{
-    s.starts_with(&FILE_HEADER)
-}
-
-// The recording begins with its format's file header. `pub` for the viewer, which judges it alone.
-pub fn headed(f: Format, s: &[u8]) -> bool
+// The recording begins with its format's file header.
+fn headed(f: Format, s: &[u8]) -> bool
     ensures { result ≡ headed (format_of f) s.now }
 {
     match f {
         Format::If1 | Format::If2 => true,
-        Format::Storage => has_file_header(s),
+        Format::Storage => s.starts_with(&FILE_HEADER),
     }
+}
+
+// The tests in front of a recording's frames: its length, which the report limits more, and its file header. `pub` for the report and the viewer.
+pub fn judge_front(f: Format, most: usize, s: &[u8]) -> Result<(), RefusedAt>
+    ensures { placed_of (λ u. u) result ≡ unless_at 9 (leb (length s.now) most) (unless_at 8 (headed (format_of f) s.now) (done tt)) }
+{
+    if most < s.len() {
+        return Err(Refusal::TooLong.into());
+    }
+    if !headed(f, s) {
+        return Err(Refusal::StorageHeader.into());
+    }
+    Ok(())
 }
 
 // Scans the frames behind the file header, up to the first that is refused, and adds up the octets that a conversion to `g` writes.
@@ -104,12 +109,7 @@ fn scan_frames(f: Format, g: Format, s: &[u8]) -> Result<Counts, RefusedAt>
 pub fn read_all(f: Format, g: Format, s: &[u8]) -> Result<Counts, RefusedAt>
     ensures { (r : ℕ) → counts_of result ≡ and_then_at (read_recording (format_of f) s.now) (λ xs. done (length xs, length (converted (format_of f) (format_of g) r xs))) }
 {
-    if LIMIT < s.len() {
-        return Err(Refusal::TooLong.into());
-    }
-    if !headed(f, s) {
-        return Err(Refusal::StorageHeader.into());
-    }
+    judge_front(f, LIMIT, s)?;
     scan_frames(f, g, s)
 }
 

@@ -11,10 +11,10 @@ ghost use Rattle.reception.specs.Classes.{reception_of};
 ghost use Rattle.report.specs.Answers.{counts_of, reported_of};
 ghost use Rattle.report.specs.Counting.{one_more, AtMost};
 
-use frame::{Format, Refusal};
+use frame::Format;
 use frame_reader::read_next;
 use reception::{Reception, class_of};
-use recording_reader::{RefusedAt, has_file_header, header_octets};
+use recording_reader::{RefusedAt, header_octets, judge_front};
 
 // The most octets that a report is made of.
 const REPORT_LIMIT: usize = 65536;
@@ -78,11 +78,6 @@ fn count_frames(s: &[u8]) -> Reported
 pub fn report_recording(s: &[u8]) -> Reported
     ensures { reported_of result ≡ report_call s.now }
 {
-    if REPORT_LIMIT < s.len() {
-        return Err(Refusal::TooLong.into());
-    }
-    if !has_file_header(s) {
-        return Err(Refusal::StorageHeader.into());
-    }
+    judge_front(Format::Storage, REPORT_LIMIT, s)?;
     count_frames(s)
 }

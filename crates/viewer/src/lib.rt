@@ -12,7 +12,7 @@ ghost use Rattle.viewer.specs.Answers.{place_of, opened_of, Nexts, ViewsInto};
 
 use frame::{Format, FrameHeader, Refusal};
 use frame_reader::{core_out, read_next};
-use recording_reader::{LIMIT, RefusedAt, headed, header_octets};
+use recording_reader::{LIMIT, RefusedAt, header_octets, judge_front};
 
 // The place of a frame: its number, and the octet at which it begins.
 #[derive(Clone, Copy)]
@@ -37,12 +37,7 @@ impl<'a> Viewer<'a> {
         ensures over { IfOk result (λ v. (v.rec ≡ rec.entry) × (format_numbered format ≡ ok (format_of v.format))) }
     {
         let f = Format::try_from(format)?;
-        if LIMIT < rec.len() {
-            return Err(Refusal::TooLong.into());
-        }
-        if !headed(f, rec) {
-            return Err(Refusal::StorageHeader.into());
-        }
+        judge_front(f, LIMIT, rec)?;
         let first = Place {
             number: 0,
             offset: header_octets(f) as u64,
