@@ -25,6 +25,7 @@ impl Conversion {
         if HIGHEST_MODE < request {
             return Err(Refusal::ArgumentRange);
         }
+        // At most 8, so that the cast loses nothing.
         Ok(Conversion {
             from,
             to,

@@ -1,5 +1,6 @@
 // Reading a recording: the tests in front of its frames, then the scan, a frame at a time. `validate` is an entry; the other `pub`
-// functions, `Counts` and `RefusedAt` are for the crates that convert, report and view.
+// functions, `Counts` and `RefusedAt` are for the crates that convert, report and view. A `usize` becomes a `u64` by `as`, since it has no `From`:
+// the check proves that nothing is lost.
 #![tactic(auto)]
 
 ghost use Rattle.std.specs.Prelude.{◌≡◌, ℕ, ◌≤◌, leb, length};
@@ -26,7 +27,8 @@ pub struct Counts {
     pub octets: usize,
 }
 
-// A refusal with its place: the frame's number and its first octet.
+// A refusal with its place: the frame's number and its first octet. Where a frame is refused it is written with its fields' names: a constructor
+// would take two numbers by their order alone.
 #[derive(Clone, Copy)]
 pub struct RefusedAt {
     pub refusal: Refusal,
@@ -34,7 +36,8 @@ pub struct RefusedAt {
     pub octet: u64,
 }
 
-// Outside the frames the place is (0, 0).
+// Outside the frames the place is (0, 0), which the first of a recording's frames can have too: the definition and C's answer have it so. The number
+// tells: a frame is refused by 1 to 7, and what is outside by 8 to 11.
 impl From<Refusal> for RefusedAt {
     ghost from_gives = { λ e r. r ≡ outside e };
 
@@ -90,7 +93,8 @@ fn scan_frames(f: Format, g: Format, s: &[u8]) -> Result<Counts, RefusedAt>
         frames: 0,
         octets: header_octets(g),
     };
-    // A while: the cursor moves by whole frames.
+    // A while: the place moves by whole frames. An iterator over them would hold it under the same invariant, its item a `Result` behind which
+    // nothing may come; and the compiler is to see the whole of this loop, whose speed is measured. `Viewer` hands frames out one by one.
     while at < s.len() {
         let (h, n) = read_front(f, &s[at..]).map_err(|refusal| RefusedAt {
             refusal,

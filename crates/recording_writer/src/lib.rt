@@ -24,7 +24,7 @@ fn write_frames(c: Conversion, s: &[u8], out: &mut [u8])
     let mut to = header_octets(c.to);
     // Towards IF1 and IF2 this copies nothing.
     copy(&mut out[..to], &FILE_HEADER[..to]);
-    // A while: both places move by whole frames.
+    // A while: both places move by whole frames. An iterator over the frames would hold the first alone, and the invariant is about both.
     while at < s.len() {
         let front = &s[at..];
         let t = usize::from(type_in(c.from, front));

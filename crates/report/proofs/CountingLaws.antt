@@ -2,11 +2,11 @@
 -- Assumes nothing.
 use mathlib.Core.Path.{◌≡◌, refl, sym, ap, ap₂, ◌∙◌, subst}
 use mathlib.Core.Bool.{Bool, true, false, cond}
-use mathlib.Core.List.{List, []}
+use mathlib.Core.List.{List}
 use Prim.Native.Nat.{ℕ, suc, ◌+◌, ◌<◌, ◌≤◌}
 use native.Mathlib.Omega.{arith}
 use lib.Dec.{eqb, leb}
-use lib.ListN.{length, drop, get_or, length-drop, drop_of_length-le}
+use lib.ListN.{length, drop, get_or, length-drop}
 use lib.Seq.{drop-drop}
 use Rattle.bits.specs.Bits.{Octets, one_if}
 use Rattle.bits.proofs.BitLaws.{octets-drop}
@@ -16,7 +16,7 @@ use Rattle.definitions.specs.Reading.{read_frame}
 use Rattle.definitions.specs.Reception.{Reception, SidClass, sid, sid_class, class_of, frame_class}
 use Rattle.definitions.proofs.Frames.{read_known}
 use Rattle.recordings.specs.Placed.{Placed, refused_at, done, and_then_at}
-use Rattle.recordings.specs.Recordings.{file_header, before, scan, scan_frames}
+use Rattle.recordings.specs.Recordings.{before, scan, scan_frames}
 use Rattle.recordings.specs.Report.{Report, is_speech, is_sid, is_speech_lost, is_no_data, how_many, report_of}
 use Rattle.recordings.proofs.Scan.{shown-size, scan_step, scan_stop}
 use Rattle.report.specs.Counting.{one_more, AtMost}
@@ -45,15 +45,6 @@ at_most_more n m r c h l = record {
   none_fit = omega (arith, h.none_fit, one_most (is_no_data c));
 }
 
-pub at_most-mono : (n m : ℕ) (r : Report) → AtMost n r → n ≤ m → AtMost m r
-at_most-mono n m r h l = record {
-  frames_fit = omega (arith, h.frames_fit);
-  speech_fit = omega (arith, h.speech_fit);
-  sid_fit = omega (arith, h.sid_fit);
-  lost_fit = omega (arith, h.lost_fit);
-  none_fit = omega (arith, h.none_fit);
-}
-
 -- ---- the scan
 
 -- what is counted, with the frames that are still to come
@@ -79,17 +70,6 @@ counts n f a b c d = record { octets = n; frames = f; speech = a; sid = b; speec
 pub same_counts : (n : ℕ) {f g a a' b b' c c' d d' : ℕ} → f ≡ g → a ≡ a' → b ≡ b' → c ≡ c' → d ≡ d' → counts n f a b c d ≡ counts n g a' b' c' d'
 same_counts n p q r s t = cc
 
--- before the first frame
-abbrev pub nothing : ℕ → Report
-nothing n = counts n 0 0 0 0 0
-
-whole_rest : (n : ℕ) (w : Placed (List Frame)) → whole n w ≡ rest (nothing n) w
-whole_rest n (refused_at m k at) = refl
-whole_rest n (done xs) = ap done (same_counts n (omega arith) (omega arith) (omega arith) (omega arith) (omega arith))
-
-more_none : (r : Report) → more r [] ≡ r
-more_none r = same_counts r.octets (omega arith) (omega arith) (omega arith) (omega arith) (omega arith)
-
 rest_before : (r : Report) (x : Frame) (w : Placed (List Frame)) → rest r (before x w) ≡ rest (one_more r (frame_class x)) w
 rest_before r x (refused_at m k at) = refl
 rest_before r x (done xs) =
@@ -99,19 +79,6 @@ pub record Counted (s : List ℕ) (at : ℕ) (r : Report) : Type 0 where
   pub within : at ≤ length s
   pub fits : AtMost at r
   pub sums : whole (length s) (scan_frames storage s) ≡ rest r (scan storage 0 r.frames at (drop at s))
-
-pub counted_start : (s : List ℕ) (at : ℕ) → at ≡ length (file_header storage) → 9 ≤ length s → Counted s at (nothing (length s))
-counted_start s at e l = record {
-  within = omega arith;
-  fits = record {
-    frames_fit = omega arith;
-    speech_fit = omega arith;
-    sid_fit = omega arith;
-    lost_fit = omega arith;
-    none_fit = omega arith;
-  };
-  sums = whole_rest (length s) (scan_frames storage s) ∙ ap (λ a. rest (nothing (length s)) (scan storage 0 0 a (drop a s))) (sym e);
-}
 
 -- the frame at hand is counted, whatever is taken for its STI
 pub counted_step : (s : List ℕ) (at : ℕ) (r : Report) (x : Frame) (n : ℕ) (sti : Bool) (q : Report) → Octets s → read_frame storage (drop at s) ≡ ok (x, n)
@@ -135,7 +102,3 @@ counted_step s at r x n sti q o h e c =
 pub counted_stop : (s : List ℕ) (at : ℕ) (r : Report) (n : ℕ) → at < length s → read_frame storage (drop at s) ≡ refused n → Counted s at r
     → refused_at n r.frames at ≡ whole (length s) (scan_frames storage s)
 counted_stop s at r n l h c = sym (c.sums ∙ ap (rest r) (scan_stop storage r.frames at (drop at s) n (omega (arith, length-drop at s)) h))
-
-pub counted-end : (s : List ℕ) (at : ℕ) (r : Report) → length s ≤ at → Counted s at r → done r ≡ whole (length s) (scan_frames storage s)
-counted-end s at r l c =
-    sym (c.sums ∙ ap (λ d. rest r (scan storage 0 r.frames at d)) (drop_of_length-le s l) ∙ ap done (more_none r))

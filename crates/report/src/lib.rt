@@ -1,5 +1,6 @@
 // The report on a stored recording: how many octets and frames it has, and how many frames of each reception class. `report_recording` is the entry;
-// `Report` and `Reported` are `pub` for the C interface and for the program that prints them.
+// `Report` and `Reported` are `pub` for the C interface and for the program that prints them. A `usize` becomes a `u64` by `as`, since it has no
+// `From`: the check proves that nothing is lost.
 #![tactic(auto)]
 
 ghost use Rattle.std.specs.Prelude.{◌≡◌, ◌≤◌, length};
@@ -59,7 +60,8 @@ fn count_frames(s: &[u8]) -> Reported
         octets: s.len(),
         ..Report::default()
     };
-    // A while: the cursor moves by whole frames.
+    // A while: the place moves by whole frames. An iterator over them would hold it under the same invariant, its item a `Result` behind which
+    // nothing may come.
     while at < s.len() {
         let (h, n) = read_next(Format::Storage, &s[at..]).map_err(|refusal| RefusedAt {
             refusal,

@@ -3,8 +3,7 @@ use mathlib.Core.Path.{◌≡◌, sym, ap, ap₂, ◌∙◌}
 use mathlib.Core.Logic.{◌≢◌}
 use mathlib.Core.List.{List, ◌++◌}
 use Prim.Native.Nat.{ℕ, ◌≤◌}
-use native.Mathlib.Omega.{arith}
-use lib.ListN.{length, take, drop, length-append}
+use lib.ListN.{length, take, drop}
 use lib.Seq.{take_at}
 use Rattle.bits.specs.Bits.{Octets}
 use Rattle.definitions.specs.Frames.{Format, Frame}
@@ -73,9 +72,6 @@ module _ (from to request : ℕ) (s mid₀ mid : List ℕ) (a : Result Counts Re
 
   mid_is : mid ≡ written.w ++ drop (length written.w) mid₀
   mid_is = i.buffer ∙ ap (λ c. buffer_after c mid₀) written.is
-
-  pub mid_long : m ≤ length mid
-  mid_long = omega (arith, ap length mid_is, length-append written.w (drop (length written.w) mid₀), written.many)
 
   -- the second call was made
   pub comes_back : (out₀ out : List ℕ) (b : Result Counts RefusedAt) → Octets s → IntoBuffer (convert_call to from request (take m mid) (length out₀)) out₀ out b

@@ -1,5 +1,6 @@
 // Viewing a recording, a frame a call (document 01, "Recordings and conversion", last paragraph). A `Viewer` carries the recording and the
 // place of the next frame; it is for programs in Rattle. `view_open` and `view_next` are entries: they hand the place out and take it in.
+// `usize` and `u64` become each other by `as`, since they have no `From`: the check proves that nothing is lost.
 #![tactic(auto)]
 
 ghost use Rattle.std.specs.Prelude.{◌≡◌, ℕ, IfOk, length};

@@ -16,7 +16,7 @@ use Rattle.frame.specs.declared.Refusal.{Refusal}
 use Rattle.recording_reader.proofs.ScanLaws.{part_read}
 use Rattle.report.specs.Answers.{counts_of, reported_of}
 use Rattle.report.specs.Counting.{one_more}
-use Rattle.report.proofs.CountingLaws.{Counted, counted_step, counted_stop, counted-end}
+use Rattle.report.proofs.CountingLaws.{Counted, counted_step, counted_stop}
 use Rattle.report.proofs.count_frames.Goals.{In_ok-h, After-count, After-from_residual}
 use Rattle.report.proofs.count_frames.Goals as goal
 
@@ -63,6 +63,3 @@ loop-at-smaller c =
 
 pub loop-at-preserved : goal.loop-at-preserved
 loop-at-preserved c = (step_there (goal.at.loop-at-preserved c).After-count).1
-
-pub returns : goal.returns
-returns c = counted-end c.args.s.now c.loop-at.at (counts_of c.loop-at.report) (omega arith) c.loop-at.invariant
