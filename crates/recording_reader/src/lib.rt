@@ -27,8 +27,8 @@ pub struct Counts {
     pub octets: usize,
 }
 
-// A refusal with its place: the frame's number and its first octet. Where a frame is refused it is written with its fields' names: a constructor
-// would take two numbers by their order alone.
+// A refusal with its place: the frame's number and its first octet. Where a frame is refused it is written out: a constructor would be as long as
+// what it saves, and take the two numbers by their order.
 #[derive(Clone, Copy)]
 pub struct RefusedAt {
     pub refusal: Refusal,
