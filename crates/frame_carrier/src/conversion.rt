@@ -1,7 +1,7 @@
 // What a conversion is asked for. A module of its own, since a struct with a ghost field imports every `ghost use` of its file.
 ghost use Rattle.std.specs.Prelude.{◌≤◌};
 
-use frame::{Format, HIGHEST_MODE, Refusal};
+use frame::{Format, Refusal, mode_numbered};
 
 // The two formats, and the request that frames have towards IF1.
 #[derive(Clone, Copy)]
@@ -22,14 +22,7 @@ impl Conversion {
     {
         let from = Format::try_from(from)?;
         let to = Format::try_from(to)?;
-        if HIGHEST_MODE < request {
-            return Err(Refusal::ArgumentRange);
-        }
-        // At most 8, so that the cast loses nothing.
-        Ok(Conversion {
-            from,
-            to,
-            request: request as u8,
-        })
+        let request = mode_numbered(request)?;
+        Ok(Conversion { from, to, request })
     }
 }
