@@ -17,8 +17,8 @@ use frame_reader::read_next;
 use reception::{Reception, class_of};
 use recording_reader::{RefusedAt, header_octets, judge_front};
 
-// The most octets that a report is made of.
-const REPORT_LIMIT: usize = 65536;
+// The most octets that a report is made of. `pub` for the program that prints it.
+pub const REPORT_LIMIT: usize = 65536;
 
 #[derive(Clone, Copy, Default)]
 pub struct Report {

@@ -6,12 +6,13 @@ mod text;
 
 ghost use Rattle.std.specs.Prelude.{◌≤◌, IfOk, length};
 
+use report::REPORT_LIMIT;
 use std::io;
 use std::io::Read;
 use std::process::ExitCode;
 
 // One octet more than a report may have, so that a longer input is seen to be longer.
-const ROOM: usize = 65537;
+const ROOM: usize = REPORT_LIMIT + 1;
 
 // Reads until the input ends or the buffer is full, and answers how many octets came. A read may bring fewer octets than there are.
 fn read_input(from: &mut impl Read, buf: &mut [u8]) -> io::Result<usize>
