@@ -1,5 +1,6 @@
 // Prints document 01's bench cases that are not proved, and the vectors that the standards print: TS 26.201, tables 5, 6, A.1a, A.2, A.3 and
-// B.1 to B.5; TS 26.202, table 6-2. The second program prints the same from the papers.
+// B.1 to B.5; TS 26.202, table 6-2. The second program prints the same from the papers. The library is called as a C host calls it, by level
+// three's functions: formats, types and modes are numbers here, and sizes that the crates below name are named again.
 #![tactic(auto)]
 
 mod bench;

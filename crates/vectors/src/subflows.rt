@@ -1,4 +1,5 @@
 // TS 26.202, table 6-2: three sets of sub-flow combinations, with nothing in a third sub-flow. A frame of each goes up and comes down again.
+// Counts are C's u64, of which usize has no `From`: the casts lose nothing.
 ghost use Rattle.std.specs.Prelude.{◌≤◌};
 
 use crate::print::Octets;
