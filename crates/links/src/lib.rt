@@ -1,5 +1,5 @@
-// The link to a radio network as document 01 and TS 26.202 define it: its state by value, what each call answers, in specs/, and what is
-// claimed of the calls, each theorem as the contract of a function that computes nothing. The crates of the link's calls stand above it.
+// The link to a radio network as document 01 and TS 26.202 define it: its state by value, FQC, what each call answers, in specs/, and what
+// is claimed of the calls, each theorem as the contract of a function that computes nothing. The crates of the link's calls stand above it.
 #![tactic(auto)]
 
 ghost use Rattle.std.specs.Prelude.{◌≡◌, leb};
