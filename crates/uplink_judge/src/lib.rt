@@ -58,7 +58,7 @@ fn pick(link: &Link, fqc: Fqc, rfci: u64) -> Result<Combination, Refusal>
     lookup_rfci(&link.set, rfci as u8).ok_or(Refusal::NotInSet)
 }
 
-// What Up is to write: the frame of a combination that has a core, or none, a frame of type 15 with the FQC's quality. Of a bad frame
+// What Up is to write. Some: the frame of a combination that has a core. None: a frame of type 15 with the FQC's quality. Of a bad frame
 // no sub-flow is read. Three functions and not one, since the compiler takes a call behind many tests for a rare one, and leaves it a call.
 pub fn judge(
     link: Link,
