@@ -71,8 +71,8 @@ pub fn copy(dst: &mut [u8], src: &[u8])
     }
 }
 
-// Fills `dst` with octets of bits from bit `a` of `src` on. `pub` for bit_groups too. That `a` is below 8 is asked here and there: a number that a caller
-// divides, or a constant, holds no fact.
+// Fills `dst` with octets of bits from bit `a` of `src` on. `pub` for bit_groups too. That `a` is below 8 is asked here and there: a number
+// that a caller divides, or a constant, holds no fact.
 pub fn copy_octets(src: &[u8], a: usize, dst: &mut [u8])
     requires { (a < 8) × (8 * length dst.old + a ≤ 8 * length src.now) }
     ensures { bits dst.new ≡ take (8 * length dst.old) (drop a (bits src.now)) }

@@ -1,4 +1,5 @@
-// Converting a recording among the three formats: everything is read, and only then written. `convert` and `convert_length` are entries.
+// Converting a recording among the three formats: everything is read, and only then written. `convert` and `convert_length` are entries: formats and
+// request are numbers there, as a call hands them in, and a `Conversion` behind them.
 #![tactic(auto)]
 
 ghost use Rattle.std.specs.Prelude.{◌≡◌, ℕ, length};

@@ -22,8 +22,8 @@ pub fn core_at(f: Format) -> usize
     }
 }
 
-// Moves `c` octets of bits from bit `A` of `src` on to `out`, and then, where it is asked, what is left of the source frame's last octet. `last` says whether
-// one more octet is written: no closure.
+// Moves `c` octets of bits from bit `A` of `src` on to `out`, and then, where it is asked, what is left of the source frame's last octet:
+// `last` says whether one more octet is written, so it is no closure.
 fn move_bits<const A: usize>(src: &[u8], c: usize, last: bool, out: &mut [u8])
     requires { (A < 8) × (c < length src.now) × (c + one_if last ≤ length out.old) × (c ≤ 64) }
     ensures { (w : List Bool) (z : ℕ) (r : List Bool) → Ends src.now A c w z r → out.new ≡ packs (c + one_if last) w ++ drop (c + one_if last) out.old }

@@ -35,6 +35,7 @@ pub enum Reception {
     NoData,
 }
 
+// No From<bool>: it has one caller, and its law would be this clause.
 fn speech_class(good: bool) -> SpeechClass
     ensures { speech_of result ≡ speech_class good }
 {

@@ -18,7 +18,7 @@ use frame_writer::write_modes;
 use links::{Answered, Combination, Fqc, Link};
 use uplink_judge::{SubflowOctets, judge, quality_of};
 
-// The octets of the longest core.
+// The octets of the longest core. Without a heap a core has a buffer of so many octets, and its own count beside it.
 const CORE_MOST: usize = 60;
 
 // Puts a sub-flow behind the first `at` bits of a core, behind which there is nothing but the filling. Most third sub-flows have no bits.
@@ -83,7 +83,8 @@ fn build_joined(
     Ok(n)
 }
 
-// Makes an IF1 frame of three sub-flows, by FQC and RFCI. `pub` for level three, which has no use for the state handed on.
+// Makes an IF1 frame of three sub-flows, by FQC and RFCI. `pub` for level three, which has no use for the state handed on. Link, FQC, RFCI and sub-flows
+// are no struct: they are what the entry is handed, and three functions take them apart.
 pub fn join_frame(
     link: Link,
     fqc: u64,
