@@ -1,6 +1,6 @@
 // What a frame is to the code: formats, refusals, a frame's fields, and the table of types. The crates that read, build and classify
 // frames stand above it; its functions are `pub` for them. What an answer means is said in specs/Answers.antt, and what a frame is in
-// `definitions`.
+// `definitions`. Casts between usize and u64, here and above: they have no `From`, and the same 64 bits.
 #![tactic(auto)]
 
 pub mod fields;
@@ -93,6 +93,7 @@ pub fn mode_numbered(m: u64) -> Result<u8, Refusal>
     if HIGHEST_MODE < m {
         return Err(Refusal::ArgumentRange);
     }
+    // At most 8: the cast loses nothing.
     Ok(m as u8)
 }
 
