@@ -1,6 +1,6 @@
 // Octets as bits: reading a bit or a field, and putting a run of bits in any place, with shifts and masks and whole octets at a
 // time. Every crate above packs and unpacks through this one: frames, sub-flows, payloads. Its public functions are `pub` for
-// those crates; each asks what their callers have shown. Casts to u8 are of what a mask has left.
+// those crates; each asks what their callers have shown. Casts to u8 lose nothing: a mask, or what a field's contract asks, leaves 8 bits.
 #![tactic(auto)]
 
 ghost use Rattle.std.specs.Prelude.{◌≡◌, ◌++◌, false, ◌+◌, ◌-◌, ◌*◌, ◌%◌, ◌≤◌, ◌<◌, ◌^◌, length, get_or, take, drop, replicate};
@@ -61,7 +61,8 @@ fn copy_part(src: &[u8], from: usize, k: usize, dst: &mut [u8], at: usize)
     }
 }
 
-// Copies `src` to `dst`. A loop, since `copy_from_slice` calls memmove, which a host need not have. `pub` for recording_writer too.
+// Copies `src` to `dst`. A loop, since `copy_from_slice` calls memmove, which a host need not have. `pub` for bit_groups and recording_writer too. By `zip` its
+// invariant would be about pairs of borrows.
 pub fn copy(dst: &mut [u8], src: &[u8])
     requires { length dst.old ≡ length src.now }
     ensures { dst.new ≡ src.now }
@@ -71,8 +72,8 @@ pub fn copy(dst: &mut [u8], src: &[u8])
     }
 }
 
-// Fills `dst` with octets of bits from bit `a` of `src` on. `pub` for bit_groups too. That `a` is below 8 is asked here and there: a number
-// that a caller divides, or a constant, holds no fact.
+// Fills `dst` with octets of bits from bit `a` of `src` on. `pub` for bit_groups too. That `a` is below 8 is asked, here and in
+// bit_groups, and held by no type: callers give a remainder or a constant.
 pub fn copy_octets(src: &[u8], a: usize, dst: &mut [u8])
     requires { (a < 8) × (8 * length dst.old + a ≤ 8 * length src.now) }
     ensures { bits dst.new ≡ take (8 * length dst.old) (drop a (bits src.now)) }

@@ -1,5 +1,6 @@
 // Codec order: the codec's bits, one octet of 0 or 1 for each, put in the order of the core frame and back. `order_to_core` and
-// `order_to_row` are entries. Mode, source and target are what the call is handed; they are no struct, of which the target would be lent out.
+// `order_to_row` are entries. Mode, source and target are what the call is handed; no struct
+// holds them: the target would have to be lent out of it.
 #![tactic(auto)]
 
 ghost use Rattle.std.specs.Prelude.{◌≡◌, ◌≤◌, IfOk, leb, length};

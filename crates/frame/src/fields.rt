@@ -7,8 +7,8 @@ ghost use Rattle.frame.specs.Answers.{format_of};
 use crate::table::carries_modes;
 use crate::{Format, HIGHEST_MODE, SID};
 
-// Of a SID frame the indication is 0, and the mode at most 8; of another the mode doesn't count, and its callers give 0. No Option: the definition's test
-// takes a number.
+// Of a SID frame the indication is 0, and the mode at most 8; of another the mode doesn't count, and those who judge give 0. No Option: the
+// definition's test takes a number.
 fn sid_good(t: u64, i: u64, mode: u64) -> bool
     ensures { result ≡ sid_good t i mode }
 {

@@ -52,8 +52,8 @@ pub enum Refusal {
     SubflowBuffer = 17,
 }
 
-// A frame's fields but for the core, as they stand in its octets: numbers, and no bool or mode. A reader may find indication and request out of range;
-// type and quality are put back by shifts, and go to C.
+// A frame's fields but for the core, as they stand in its octets: numbers, and no bool or mode. A reader may find indication and request out of
+// range; type and quality are put back by shifts, and go to C.
 #[derive(Clone, Copy)]
 pub struct FrameHeader {
     pub frame_type: u8,
@@ -81,6 +81,7 @@ impl From<Refusal> for u64 {
     ghost from_gives = { λ e n. n ≡ number_of e };
 
     fn from(e: Refusal) -> u64 {
+        // A cast alone reads a discriminant.
         e as u64
     }
 }

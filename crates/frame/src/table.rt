@@ -1,6 +1,7 @@
-// The table of types. Its functions are `pub` for the crates above; they ask a type below 16. No struct holds that bound, or format and type
-// together: `header_bits` and `carries_modes` ask nothing of a type, and would then ask it. The bounds that they give beside the value are what
-// callers want of it in sums. A function that gives a number for each format is a match of its own: one over all would be no shorter.
+// The table of types. Its functions are `pub` for the crates above; those that read a column ask a type below 16, or one that is known or has a
+// core. No struct holds such a bound, or format and type together: `header_bits` and `carries_modes` ask nothing of a type, and would then ask it.
+// The bounds that they give beside the value are what callers want of it in sums. A function that gives a number for each format, here and above, is
+// a match of its own, and one that reads a column a line of its own: one function for several would be no shorter.
 ghost use Rattle.std.specs.Prelude.{◌≡◌, ◌<◌, ◌≤◌, ◌*◌, ◌/◌, ◌%◌, ◌^◌, true, IfOk};
 ghost use Rattle.definitions.specs.Outcome.{ok, unless};
 ghost use Rattle.definitions.specs.Frames.{if2, known, core_bits, class_a, octets, core_octets, carries_modes, header_bits, fill_bits, spare_before, spare_after};
@@ -8,9 +9,9 @@ ghost use Rattle.frame.specs.Answers.{format_of, built_of};
 
 use crate::{Format, Refusal};
 
-// The table by its columns, as the papers print it, each with a number for every type, 0 for the reserved ones. Not by rows: each function reads one
-// column, a struct for each of 16 types is no plainer, and the scan of a recording, which waits for the octets of each frame, took a thirtieth more time by
-// rows (a row's length is a number to multiply with). Statics, since a constant would be built anew at each use.
+// The table by its columns, as the papers print it, each with a number for every type, 0 for the reserved ones. Not by rows: each function reads
+// one column, a struct for each of 16 types is no plainer, and the scan of a recording, which waits for the octets of each frame, took a thirtieth
+// more time by rows (a row's length is a number to multiply with). Statics, since a constant would be built anew at each use.
 
 // K.
 static CORE_BITS: [usize; 16] = [

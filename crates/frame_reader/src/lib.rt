@@ -111,7 +111,8 @@ pub fn read_if1(s: &[u8]) -> Result<(FrameHeader, usize), Refusal>
     judge(true, Format::If1, s)
 }
 
-// Puts the core of the frame at the start of `s`, whose header is `h`, packed into the buffer, if that has room. `pub` for the viewer.
+// Puts the core of the frame at the start of `s`, whose header is `h`, packed into the buffer, if that has room. `pub` for the viewer. No method of
+// `FrameOctets`: it asks for octets and type alone.
 pub fn core_out(
     f: Format,
     s: &[u8],

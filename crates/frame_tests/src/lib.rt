@@ -1,6 +1,6 @@
 // The tests of reading one frame, each of document 01's order one function whose answer equals the definition's test. The `pub` functions are
 // for frame_reader and the crates that go over recordings. Format and octets go side by side until a frame is known to stand there whole: from
-// there on a `FrameOctets` holds them. Where one octet alone is asked, that is what a function asks for.
+// there on a `FrameOctets` holds them. A function that reads the first octet alone asks only for that one.
 #![tactic(auto)]
 
 ghost use Rattle.std.specs.Prelude.{◌≡◌, true, not, ◌&&◌, ◌||◌, cond, ◌+◌, ◌<◌, ◌≤◌, leb, length, drop};

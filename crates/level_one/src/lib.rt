@@ -1,6 +1,7 @@
 // Level one's C interface (include/amrwb.h): recordings and single frames in IF1 and IF2. Each function calls one entry and hands its answer
-// on as numbers. Every public function is an entry; crates/level_one_c exports them. Level two's functions of these names take format 3, which
-// these refuse: so each has a contract of its own, and calls the entry itself, which is one line, as a call of the other level's would be.
+// on as numbers. Every public function is an entry; crates/level_one_c exports them. Of those that take a
+// format, level two's take format 3 too, which these refuse: so each has a contract of its own, and calls the entry itself, which is one line, as a
+// call of the other level's would be.
 #![tactic(auto)]
 
 ghost use Rattle.std.specs.Prelude.{◌≡◌, ◌&&◌, leb, length};

@@ -1,6 +1,7 @@
 // Level two's C interface (include/amrwb.h): each function calls one entry and hands its answer on as numbers, as specs/Flat.antt says.
 // Every public function is an entry, and so are the two of level one's that are the same here; crates/level_two_c exports them. The answers
-// are structs with a number for each thing, and 0 for what is not there: to C no export hands out an enum, which Result and Option are too.
+// are structs with a number for each thing, and 0 for what is not there: no export may hand an enum to C, and Result and Option are enums. One function
+// for several calls would save no line: each is a name of C's and one call.
 #![tactic(auto)]
 
 ghost use Rattle.std.specs.Prelude.{◌≡◌, length};
@@ -127,7 +128,7 @@ impl From<RefusedAt> for ViewAnswer {
     }
 }
 
-// The counts are cast, and `packed_octets`' below, since u64 has no `From` of a usize.
+// The counts are cast, as is what `packed_octets` answers below, since u64 has no `From` of a usize.
 impl From<Reported> for ReportAnswer {
     ghost from_gives = { λ r a. a ≡ report_numbers (reported_of r) };
 

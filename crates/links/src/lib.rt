@@ -83,6 +83,7 @@ impl From<Fqc> for u64 {
     ghost from_gives = { λ q n. n ≡ fqc_number q };
 
     fn from(q: Fqc) -> u64 {
+        // A cast alone reads a discriminant.
         q as u64
     }
 }

@@ -26,8 +26,8 @@ fn table_of(mode: u64) -> &'static [u16]
     }
 }
 
-// The core of a row by its mode's table, and below the row of a core: a line each, which one function for both would have, and take besides
-// which way it goes.
+// The core of a row by its mode's table, and below the row of a core: a line each; one function for both would have these
+// two lines, and a parameter for the direction besides.
 #[tactic(auto, using(crate::proofs::ModeLaws::core_asked))]
 pub fn put_core(mode: u64, row: &[u8], core: &mut [u8])
     requires { RowReady mode row.now core.old }

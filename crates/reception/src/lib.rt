@@ -8,7 +8,7 @@ ghost use Rattle.reception.specs.Classes.{speech_of, sid_of, reception_of, class
 use frame::table::octets_known;
 use frame::{Format, Refusal, SID};
 
-// Types 0 to 8 are speech.
+// Types 0 to 8 are speech. Not `HIGHEST_MODE`, which is about modes.
 const LAST_SPEECH: u64 = 8;
 
 const SPEECH_LOST: u64 = 14;

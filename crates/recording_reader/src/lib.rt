@@ -37,7 +37,7 @@ pub struct RefusedAt {
 }
 
 // Outside the frames the place is (0, 0), which the first of a recording's frames can have too: the definition and C's answer have it so. The number
-// tells: a frame is refused by 1 to 7, and what is outside by 8 to 11.
+// tells: a frame is refused by 2 to 7, and what is outside by 8 to 11.
 impl From<Refusal> for RefusedAt {
     ghost from_gives = { λ e r. r ≡ outside e };
 

@@ -14,8 +14,8 @@ use std::process::ExitCode;
 // One octet more than a report may have, so that a longer input is seen to be longer.
 const ROOM: usize = REPORT_LIMIT + 1;
 
-// Reads until the input ends or the buffer is full, and answers how many octets came: a fixed buffer and a count, since nothing here has a heap. A read
-// may bring fewer octets than there are.
+// Reads until the input ends or the buffer is full, and answers how many octets came: a fixed buffer and a count, since there is no heap. A read may
+// bring fewer octets than there are.
 fn read_input(from: &mut impl Read, buf: &mut [u8]) -> io::Result<usize>
     ensures { IfOk result (λ n. n ≤ length buf.new) }
 {

@@ -18,7 +18,7 @@ use frame_writer::write_modes;
 use links::{Answered, Combination, Fqc, Link};
 use uplink_judge::{SubflowOctets, judge, quality_of};
 
-// The octets of the longest core. Without a heap a core has a buffer of so many octets, and its own count beside it.
+// The octets of the longest core. There is no heap: a core is a buffer of so many octets, with its count beside it.
 const CORE_MOST: usize = 60;
 
 // Puts a sub-flow behind the first `at` bits of a core, behind which there is nothing but the filling. Most third sub-flows have no bits.
@@ -74,7 +74,7 @@ fn build_joined(
     }
     let h = FrameHeader {
         frame_type: t,
-        quality: quality_of(fqc),
+        quality: quality_of(u64::from(fqc)),
         indication: i,
         // Judged to be 8 at most: by try_from there would be one more test, and an error that cannot be.
         request: request as u8,
@@ -83,8 +83,8 @@ fn build_joined(
     Ok(n)
 }
 
-// Makes an IF1 frame of three sub-flows, by FQC and RFCI. `pub` for level three, which has no use for the state handed on. Link, FQC, RFCI and sub-flows
-// are no struct: they are what the entry is handed, and three functions take them apart.
+// Makes an IF1 frame of three sub-flows, by FQC and RFCI. `pub` for level three, which has no use for the state handed on. Link, FQC, RFCI and
+// sub-flows are no struct: they are what the entry is handed, and three functions take them apart.
 pub fn join_frame(
     link: Link,
     fqc: u64,
@@ -98,7 +98,7 @@ pub fn join_frame(
     match judge(link, fqc, rfci, s)? {
         Some(c) => build_joined(link.request, fqc, c, s, out),
         None => {
-            let quality = u64::from(quality_of(fqc));
+            let quality = u64::from(quality_of(u64::from(fqc)));
             build(Format::If1, NO_DATA, quality, 0, 0, &[], out)
         }
     }

@@ -34,10 +34,10 @@ fn subflows_good(c: Combination, s: SubflowOctets<'_>) -> bool
 }
 
 // The quality that an FQC gives.
-pub fn quality_of(fqc: Fqc) -> u8
-    ensures { (result ≡ cond (eqb (fqc_number fqc) 0) 1 0) × (result < 2) }
+pub fn quality_of(fqc: u64) -> u8
+    ensures { (result ≡ cond (eqb fqc 0) 1 0) × (result < 2) }
 {
-    u8::from(fqc == Fqc::Good)
+    u8::from(fqc == u64::from(Fqc::Good))
 }
 
 // The combination of an RFCI, or why Up is refused before a sub-flow is read.

@@ -3,7 +3,7 @@ use borrow.Author.Rules.{rules}
 use mathlib.Core.Path.{◌≡◌, refl, sym, ap, ◌∙◌}
 use mathlib.Core.Bool.{true, cond}
 use mathlib.Core.List.{◌++◌}
-use Prim.Native.Nat.{◌+◌, ◌≤◌}
+use Prim.Native.Nat.{ℕ, ◌+◌, ◌≤◌}
 use native.Mathlib.Omega.{arith}
 use lib.Dec.{eqb}
 use lib.ListN.{length, drop}
@@ -83,6 +83,6 @@ pub returns : goal.returns
 returns c =
     let a = c.args in
     let at = goal.at.returns c in
-    let same = frame_is a.request (fqc_number a.fqc) c.requires _ _ _ _ _ refl c.quality_of.ensures.0 c.indication_of-i.ensures refl (run_core a.request (fqc_number a.fqc) c.requires _ _ c.join.ensures) in
+    let same = frame_is a.request (fqc_number a.fqc) c.requires _ _ _ _ _ refl (c.quality_of.ensures.0 ∙ ap (λ (n : ℕ). cond (eqb n 0) 1 0) c.from-5.ensures) c.indication_of-i.ensures refl (run_core a.request (fqc_number a.fqc) c.requires _ _ c.join.ensures) in
     written_into _ a.out.now _ _ (passed at.After-core_fields_good c.if-not-core_fields_good.false) (type_known a.request (fqc_number a.fqc) c.requires) (core_long a.request (fqc_number a.fqc) c.requires) (counted-there at.After-core_octets-m) c.if-out-n.false
     (c.write_modes.ensures ∙ ap (λ x. layout if1 x ++ drop (octets if1 a.c.frame_type) a.out.now) same)
