@@ -61,8 +61,8 @@ fn copy_part(src: &[u8], from: usize, k: usize, dst: &mut [u8], at: usize)
     }
 }
 
-// Copies `src` to `dst`. A loop, since `copy_from_slice` calls memmove, which a host need not have. `pub` for bit_groups and recording_writer too. By `zip` its
-// invariant would be about pairs of borrows.
+// Copies `src` to `dst`. A loop, since `copy_from_slice` calls memmove, which a host need not have; by `zip` its invariant would be about pairs
+// of borrows. `pub` for bit_groups and recording_writer too.
 pub fn copy(dst: &mut [u8], src: &[u8])
     requires { length dst.old ≡ length src.now }
     ensures { dst.new ≡ src.now }

@@ -1,7 +1,7 @@
 // Level two's C interface (include/amrwb.h): each function calls one entry and hands its answer on as numbers, as specs/Flat.antt says.
 // Every public function is an entry, and so are the two of level one's that are the same here; crates/level_two_c exports them. The answers
-// are structs with a number for each thing, and 0 for what is not there: no export may hand an enum to C, and Result and Option are enums. One function
-// for several calls would save no line: each is a name of C's and one call.
+// are structs with a number for each thing, and 0 for what is not there: no export may hand an enum to C, and Result and Option are enums.
+// One function for several calls would save no line: each is a name of C's and one call.
 #![tactic(auto)]
 
 ghost use Rattle.std.specs.Prelude.{◌≡◌, length};
