@@ -1,6 +1,6 @@
 -- Runs of bits put one behind the other are the packed core, and of a packed core the builder judges 6 and 10 alone. Assumes nothing.
 use mathlib.Core.Path.{◌≡◌, refl, sym, ap, ap₂, subst, ◌∙◌}
-use mathlib.Core.Bool.{Bool, true, false, ◌&&◌, cond}
+use mathlib.Core.Bool.{Bool, true, false, cond}
 use mathlib.Core.List.{List, [], ◌++◌, append_assoc}
 use Prim.Native.Nat.{ℕ, ◌+◌, ◌-◌, ◌*◌, ◌<◌, ◌≤◌}
 use native.Mathlib.Nat.{zero-add}
@@ -25,9 +25,7 @@ use Rattle.frame_writer.specs.Writing.{Writable}
 use Rattle.frame_builder.specs.Output.{IntoOutput}
 use Rattle.frame_builder.proofs.BuilderLaws.{modes_fit}
 use Rattle.links.specs.declared.Combination.{Combination}
-use Rattle.links.specs.declared.Fqc.{Fqc}
 use Rattle.links.specs.declared.Link.{Link}
-use Rattle.links.specs.Answers.{fqc_number, numbered_of}
 use Rattle.links.specs.Calls.{joined, up_frame, written, up_call}
 use Rattle.links.proofs.SetLaws.{combination-good}
 use Rattle.uplink_judge.specs.Judging.{writes, HasCore, Judges}
@@ -185,29 +183,6 @@ module _ (request fqc : ℕ) {c : Combination} {s₁ s₂ s₃ : List ℕ} (h : 
         core_near = omega arith;
         room = omega arith;
       }
-
--- ---- FQC by its number
-
-module _ (n : ℕ) (r : Result Fqc Refusal) (numbered : numbered_of r ≡ unless 11 (leb n 3) (ok n)) where
-  -- what is no number of an FQC is refused
-  pub number-refused : (e : Refusal) → r ≡ Err e → (l : Link) (rfci : ℕ) (s₁ s₂ s₃ d : List ℕ) (t : Result ℕ Refusal) → t ≡ Err e
-      → IntoOutput (up_call l n rfci s₁ s₂ s₃ (length d)) d d t
-  unfolding up_call
-  number-refused e i l rfci s₁ s₂ s₃ d t k =
-      subst (λ t. IntoOutput (up_call l n rfci s₁ s₂ s₃ (length d)) d d t) (sym k)
-      (refused-up _ d e (first (leb n 3) (leb rfci 63) _ (sym (ap numbered_of i) ∙ numbered)))
-    where
-      first : (b₁ b₂ : Bool) (o : Outcome (List ℕ)) → refused (number_of e) ≡ unless 11 b₁ (ok n) → unless 11 (b₁ && b₂) o ≡ refused (number_of e)
-      first true b₂ o h = absurd cc
-      first false b₂ o h = let m : number_of e ≡ 11 = cc in ap refused (sym m)
-
-  -- what is taken is the number
-  pub number-same : (q : Fqc) → r ≡ Ok q → fqc_number q ≡ n
-  number-same q i = taken (leb n 3) (sym (ap numbered_of i) ∙ numbered)
-    where
-      taken : (b : Bool) → ok (fqc_number q) ≡ unless 11 b (ok n) → fqc_number q ≡ n
-      taken true h = cc
-      taken false h = absurd cc
 
 -- what was judged to have no core is built
 pub none-built : (l : Link) (n rfci : ℕ) (s₁ s₂ s₃ : List ℕ) (room p q : ℕ) → p ≡ q → (q ≡ cond (eqb n 0) 1 0) × (q < 2)

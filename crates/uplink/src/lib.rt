@@ -3,7 +3,6 @@
 
 ghost use Rattle.std.specs.Prelude.{◌≡◌, Bool, List, ◌++◌, ℕ, ◌+◌, ◌*◌, ◌^◌, ◌<◌, ◌≤◌, length, take, drop};
 ghost use Rattle.bits.specs.Bits.{bits, pack, octets_for};
-ghost use Rattle.links.specs.Answers.{fqc_number};
 ghost use Rattle.links.specs.Calls.{joined, up_frame, written, up_call};
 ghost use Rattle.uplink_judge.specs.Judging.{HasCore};
 ghost use Rattle.frame_builder.specs.Output.{IntoOutput};
@@ -15,7 +14,7 @@ use frame::table::core_octets;
 use frame::{Format, FrameHeader, IF1_CORE_AT, Refusal, indication_of};
 use frame_builder::{build, core_fields_good};
 use frame_writer::write_modes;
-use links::{Answered, Combination, Fqc, Link};
+use links::{Answered, Combination, Link};
 use uplink_judge::{SubflowOctets, judge, quality_of};
 
 // The octets of the longest core. There is no heap: a core is a buffer of so many octets, with its count beside it.
@@ -46,13 +45,13 @@ fn join(c: Combination, s: SubflowOctets<'_>, core: &mut [u8])
 // Makes the frame of types 0 to 9 of sub-flows that are right: joined, judged and written.
 fn build_joined(
     request: u16,
-    fqc: Fqc,
+    fqc: u64,
     c: Combination,
     s: SubflowOctets<'_>,
     out: &mut [u8],
 ) -> Result<usize, Refusal>
     requires { HasCore c s.s1.now s.s2.now s.s3.now }
-    ensures { IntoOutput (written (up_frame request (fqc_number fqc) c s.entry.s1.now s.entry.s2.now s.entry.s3.now) (length out.old)) out.old out.new result }
+    ensures { IntoOutput (written (up_frame request fqc c s.entry.s1.now s.entry.s2.now s.entry.s3.now) (length out.old)) out.old out.new result }
 {
     let mut core = [0u8; CORE_MOST];
     join(c, s, &mut core);
@@ -74,7 +73,7 @@ fn build_joined(
     }
     let h = FrameHeader {
         frame_type: t,
-        quality: quality_of(u64::from(fqc)),
+        quality: quality_of(fqc),
         indication: i,
         // Judged to be 8 at most: by try_from there would be one more test, and an error that cannot be.
         request: request as u8,
@@ -94,11 +93,10 @@ pub fn join_frame(
 ) -> Result<usize, Refusal>
     ensures { IntoOutput (up_call link fqc rfci s.entry.s1.now s.entry.s2.now s.entry.s3.now (length out.old)) out.old out.new result }
 {
-    let fqc = Fqc::try_from(fqc)?;
     match judge(link, fqc, rfci, s)? {
         Some(c) => build_joined(link.request, fqc, c, s, out),
         None => {
-            let quality = u64::from(quality_of(u64::from(fqc)));
+            let quality = u64::from(quality_of(fqc));
             build(Format::If1, NO_DATA, quality, 0, 0, &[], out)
         }
     }

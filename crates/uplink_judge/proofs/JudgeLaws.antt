@@ -25,7 +25,7 @@ use Rattle.links.specs.declared.Fqc.{Fqc}
 use Rattle.links.specs.declared.Fqc.TheVariants.{Good, Bad, BadRadio, Reserved}
 use Rattle.links.specs.contracts.Fqc.{the_type}
 use Rattle.links.specs.declared.Link.{Link}
-use Rattle.links.specs.Answers.{fqc_number}
+use Rattle.links.specs.Answers.{fqc_number, numbered_of}
 use Rattle.links.specs.Sets.{link_type, combination_good, combinations, by_rfci, lookup}
 use Rattle.links.specs.Calls.{subflow_good, subflows_good, joined, up_frame, no_data_bad, written, up_call}
 use Rattle.links.proofs.SetLaws.{combination-good, lookup-found}
@@ -166,3 +166,30 @@ module _ (l : Link) (fqc rfci : ℕ) (s₁ s₂ s₃ : List ℕ) where
         pub judges-right : (o : Option Combination) (t : ℕ) → t ≡ c.frame_type → o ≡ then_some (leb t 9) c → Judges l fqc rfci s₁ s₂ s₃ (Ok o)
         judges-right o t same e =
             subst (λ o. Judges l fqc rfci s₁ s₂ s₃ (Ok o)) (sym (e ∙ ap (λ t. then_some (leb t 9) c) same)) (judges-type (leb c.frame_type 9) refl)
+
+-- ---- FQC by its number
+
+module _ (n : ℕ) (r : Result Fqc Refusal) (numbered : numbered_of r ≡ unless 11 (leb n 3) (ok n)) where
+  -- what is no number of an FQC is refused
+  pub number-refused : (e : Refusal) → r ≡ Err e → (l : Link) (rfci : ℕ) (s₁ s₂ s₃ : List ℕ) (t : Result (Option Combination) Refusal) → t ≡ Err e
+      → Judges l n rfci s₁ s₂ s₃ t
+  unfolding picked
+  number-refused e i l rfci s₁ s₂ s₃ t k =
+      judges-refused l n rfci s₁ s₂ s₃ t e k (first (leb n 3) (leb rfci 63) _ (sym (ap numbered_of i) ∙ numbered))
+    where
+      first : (b₁ b₂ : Bool) (o : Outcome Combination) → refused (number_of e) ≡ unless 11 b₁ (ok n) → refused (number_of e) ≡ unless 11 (b₁ && b₂) o
+      first true b₂ o h = absurd cc
+      first false b₂ o h = let m : number_of e ≡ 11 = cc in ap refused m
+
+  -- what is taken is the number
+  pub number-same : (q : Fqc) → r ≡ Ok q → fqc_number q ≡ n
+  number-same q i = taken (leb n 3) (sym (ap numbered_of i) ∙ numbered)
+    where
+      taken : (b : Bool) → ok (fqc_number q) ≡ unless 11 b (ok n) → fqc_number q ≡ n
+      taken true h = cc
+      taken false h = absurd cc
+
+  -- what is judged of it is judged of the number
+  pub judges_number : (q : Fqc) → r ≡ Ok q → (l : Link) (rfci : ℕ) (s₁ s₂ s₃ : List ℕ) (t : Result (Option Combination) Refusal)
+      → Judges l (fqc_number q) rfci s₁ s₂ s₃ t → Judges l n rfci s₁ s₂ s₃ t
+  judges_number q i l rfci s₁ s₂ s₃ t w = subst (λ m. Judges l m rfci s₁ s₂ s₃ t) (number-same q i) w

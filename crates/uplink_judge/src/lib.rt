@@ -62,14 +62,15 @@ fn pick(link: &Link, fqc: Fqc, rfci: u64) -> Result<Combination, Refusal>
 // no sub-flow is read. Three functions and not one, since the compiler takes a call behind many tests for a rare one, and leaves it a call.
 pub fn judge(
     link: Link,
-    fqc: Fqc,
+    fqc: u64,
     rfci: u64,
     s: SubflowOctets<'_>,
 ) -> Result<Option<Combination>, Refusal>
-    ensures { Judges link (fqc_number fqc) rfci s.entry.s1.now s.entry.s2.now s.entry.s3.now result }
+    ensures { Judges link fqc rfci s.entry.s1.now s.entry.s2.now s.entry.s3.now result }
 {
-    let c = pick(&link, fqc, rfci)?;
-    if fqc == Fqc::Bad {
+    let q = Fqc::try_from(fqc)?;
+    let c = pick(&link, q, rfci)?;
+    if q == Fqc::Bad {
         return Ok(None);
     }
     if !subflows_good(c, s) {

@@ -3,7 +3,7 @@ use borrow.Author.Rules.{rules}
 use mathlib.Core.Path.{◌≡◌, refl, sym, ap, ◌∙◌}
 use mathlib.Core.Bool.{true, cond}
 use mathlib.Core.List.{◌++◌}
-use Prim.Native.Nat.{ℕ, ◌+◌, ◌≤◌}
+use Prim.Native.Nat.{◌+◌, ◌≤◌}
 use native.Mathlib.Omega.{arith}
 use lib.Dec.{eqb}
 use lib.ListN.{length, drop}
@@ -11,7 +11,6 @@ use lib.Seq.{length-take-le}
 use borrow.Author.Tests.{le-leb}
 use Rattle.bits.specs.Bits.{octets_for}
 use Rattle.definitions.specs.Frames.{if1, core_bits, core_octets, octets, layout, fields_good}
-use Rattle.links.specs.Answers.{fqc_number}
 use Rattle.links.specs.Calls.{up_frame}
 use Rattle.uplink.proofs.UpLaws.{joinable, refused-up, written-refused, written_short, written_into, type_known, core_long, octets_if1, front_packed, frame_is, buffer-core, run_core, modes_low, writable}
 use Rattle.uplink.proofs.build_joined.Goals as goal
@@ -23,22 +22,22 @@ size c = c.core_octets-m.ensures ∙ ap core_octets c.from.ensures
 
 -- the packed core is within the buffer
 within : (c : After-core_octets-m) → c.core_octets-m.result ≤ length c.join.new.core
-within c = omega (arith, (octets_if1 c.args.request (fqc_number c.args.fqc) c.requires _ (size c)).1, c.join.auto.core)
+within c = omega (arith, (octets_if1 c.args.request c.args.fqc c.requires _ (size c)).1, c.join.auto.core)
 
 -- how many octets the frame takes
 counted-there : (c : After-core_octets-m) → 3 + c.core_octets-m.result ≡ octets if1 c.args.c.frame_type
-counted-there c = (octets_if1 c.args.request (fqc_number c.args.fqc) c.requires _ (size c)).0
+counted-there c = (octets_if1 c.args.request c.args.fqc c.requires _ (size c)).0
 
 -- refusal 6's test is the definition's
-tested : (c : After-core_fields_good) → let a = c.args in c.core_fields_good.result ≡ fields_good if1 (up_frame a.request (fqc_number a.fqc) a.c a.s.s1.now a.s.s2.now a.s.s3.now)
+tested : (c : After-core_fields_good) → let a = c.args in c.core_fields_good.result ≡ fields_good if1 (up_frame a.request a.fqc a.c a.s.s1.now a.s.s2.now a.s.s3.now)
 tested c =
     let a = c.args in
-    c.core_fields_good.ensures (cond (eqb (fqc_number a.fqc) 0) 1 0)
-    ∙ ap (fields_good if1) (frame_is a.request (fqc_number a.fqc) c.requires _ _ _ _ _ c.from-2.ensures refl (c.from-3.ensures ∙ c.indication_of-i.ensures) c.from-4.ensures
-    (buffer-core a.request (fqc_number a.fqc) c.requires _ _ c.from-2.ensures (front_packed a.request (fqc_number a.fqc) c.requires _ _ _ c.join.ensures (c.core_octets-m.ensures ∙ ap core_octets c.from.ensures))))
+    c.core_fields_good.ensures (cond (eqb a.fqc 0) 1 0)
+    ∙ ap (fields_good if1) (frame_is a.request a.fqc c.requires _ _ _ _ _ c.from-2.ensures refl (c.from-3.ensures ∙ c.indication_of-i.ensures) c.from-4.ensures
+    (buffer-core a.request a.fqc c.requires _ _ c.from-2.ensures (front_packed a.request a.fqc c.requires _ _ _ c.join.ensures (c.core_octets-m.ensures ∙ ap core_octets c.from.ensures))))
 
 passed : (c : After-core_fields_good) → c.core_fields_good.result ≡ true
-    → let a = c.args in fields_good if1 (up_frame a.request (fqc_number a.fqc) a.c a.s.s1.now a.s.s2.now a.s.s3.now) ≡ true
+    → let a = c.args in fields_good if1 (up_frame a.request a.fqc a.c a.s.s1.now a.s.s2.now a.s.s3.now) ≡ true
 passed c w = sym (tested c) ∙ w
 
 pub join-requires : goal.join-requires
@@ -69,13 +68,13 @@ returns-then-out-n c =
 
 pub overflow_cast-h : goal.overflow_cast-h
 overflow_cast-h c =
-    omega (arith, (modes_low c.args.request (fqc_number c.args.fqc) c.requires (passed (goal.at.overflow_cast-h c).After-core_fields_good c.if-not-core_fields_good.false)).1)
+    omega (arith, (modes_low c.args.request c.args.fqc c.requires (passed (goal.at.overflow_cast-h c).After-core_fields_good c.if-not-core_fields_good.false)).1)
 
 pub write_modes-requires : goal.write_modes-requires
 write_modes-requires c =
     let a = c.args in
     let at = goal.at.write_modes-requires c in (
-      writable a.request (fqc_number a.fqc) c.requires _ _ _ a.out.now _ c.quality_of.ensures.1 c.indication_of-i.ensures (passed at.After-core_fields_good c.if-not-core_fields_good.false) c.join.auto.core (counted-there at.After-core_octets-m) c.if-out-n.false,
+      writable a.request a.fqc c.requires _ _ _ a.out.now _ c.quality_of.ensures.1 c.indication_of-i.ensures (passed at.After-core_fields_good c.if-not-core_fields_good.false) c.join.auto.core (counted-there at.After-core_octets-m) c.if-out-n.false,
       le-leb a.c.frame_type 9 c.requires.type,
     )
 
@@ -83,6 +82,6 @@ pub returns : goal.returns
 returns c =
     let a = c.args in
     let at = goal.at.returns c in
-    let same = frame_is a.request (fqc_number a.fqc) c.requires _ _ _ _ _ refl (c.quality_of.ensures.0 ∙ ap (λ (n : ℕ). cond (eqb n 0) 1 0) c.from-5.ensures) c.indication_of-i.ensures refl (run_core a.request (fqc_number a.fqc) c.requires _ _ c.join.ensures) in
-    written_into _ a.out.now _ _ (passed at.After-core_fields_good c.if-not-core_fields_good.false) (type_known a.request (fqc_number a.fqc) c.requires) (core_long a.request (fqc_number a.fqc) c.requires) (counted-there at.After-core_octets-m) c.if-out-n.false
+    let same = frame_is a.request a.fqc c.requires _ _ _ _ _ refl c.quality_of.ensures.0 c.indication_of-i.ensures refl (run_core a.request a.fqc c.requires _ _ c.join.ensures) in
+    written_into _ a.out.now _ _ (passed at.After-core_fields_good c.if-not-core_fields_good.false) (type_known a.request a.fqc c.requires) (core_long a.request a.fqc c.requires) (counted-there at.After-core_octets-m) c.if-out-n.false
     (c.write_modes.ensures ∙ ap (λ x. layout if1 x ++ drop (octets if1 a.c.frame_type) a.out.now) same)
