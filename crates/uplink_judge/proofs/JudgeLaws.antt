@@ -1,11 +1,12 @@
 -- Each refusal of Up follows from the tests made before it, and what is judged right is written as the definition has it. Assumes nothing.
 use mathlib.Core.Path.{◌≡◌, refl, sym, ap, subst, ◌∙◌}
 use mathlib.Core.Bool.{Bool, true, false, ◌&&◌, ◌||◌, cond}
-use mathlib.Core.List.{List, [], ◌∷◌, ◌++◌}
+use mathlib.Core.List.{List, [], ◌++◌}
 use Prim.Native.Nat.{ℕ, ◌+◌, ◌*◌, ◌<◌, ◌≤◌}
 use native.Mathlib.Omega.{arith}
 use Rattle.std.specs.Bool.{then_some}
 use Rattle.std.proofs.Common.{Option, Some, None, Result, Ok, Err}
+use Rattle.std.proofs.lemmas.List.{nil_from_length}
 use denote.Enum.Bare.{sameb}
 use lib.Dec.{eqb, leb}
 use lib.ListN.{length, take, length-append}
@@ -78,11 +79,7 @@ module _ (c : Combination) (s₁ s₂ s₃ : List ℕ) (g : combination_good c �
   pub frame-empty : (request fqc : ℕ) → frame_by 15 (cond (eqb fqc 0) 1 0) 0 0 [] ≡ up_frame request fqc c s₁ s₂ s₃
   frame-empty request fqc =
       frame_path _ _ (sym type-empty) refl (sym (ap (λ b. cond b c.frame_type 0) (lt-leb c.frame_type 8 (omega arith))))
-      (sym (ap (λ b. cond b request 0) (lt-leb c.frame_type 9 t))) (sym (empty (joined c s₁ s₂ s₃) (length-joined c s₁ s₂ s₃ w ∙ no_bits)))
-    where
-      empty : (l : List Bool) → length l ≡ 0 → l ≡ []
-      empty [] z = refl
-      empty (b ∷ l) z = absurd (omega arith)
+      (sym (ap (λ b. cond b request 0) (lt-leb c.frame_type 9 t))) (sym (nil_from_length (joined c s₁ s₂ s₃) (length-joined c s₁ s₂ s₃ w ∙ no_bits)))
 
 -- ---- the tests in front of the sub-flows
 
