@@ -8,6 +8,7 @@ ghost use Rattle.definitions.specs.Outcome.{refused};
 ghost use Rattle.frame.specs.Answers.{number_of, reading_of, built_of};
 ghost use Rattle.recording_reader.specs.Answers.{counts_of};
 ghost use Rattle.answers.specs.Flat.{placed_numbers, answer_numbers, frame_numbers};
+ghost use Rattle.answers.specs.Claims.{LentOctets};
 
 use frame::{FrameHeader, Refusal};
 use recording_reader::{Counts, RefusedAt};
@@ -113,3 +114,8 @@ impl From<Result<(FrameHeader, usize), Refusal>> for FrameAnswer {
         }
     }
 }
+
+// Does nothing. Its contract: demand 1 at the C interface. A refused call leaves every lent octet, and another writes the front of its buffer alone.
+pub fn lent_octets_claim()
+    ensures { LentOctets }
+{}

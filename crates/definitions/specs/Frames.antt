@@ -18,6 +18,48 @@ pub record Frame : Type 0 where
 abbrev pub frame_by : (type quality indication request : ℕ) → List Bool → Frame
 frame_by t q i r core = record { type = t; quality = q; indication = i; request = r; core = core }
 
+-- ---- the papers' numbers
+
+-- modes are 0 to 8, and so are the types of speech
+abbrev pub highest_mode : ℕ
+highest_mode = 8
+
+-- a SID frame, document 01's comfort noise: the last type with a core
+abbrev pub sid_type : ℕ
+sid_type = 9
+
+-- document 01's lost
+abbrev pub speech_lost_type : ℕ
+speech_lost_type = 14
+
+-- document 01's empty
+abbrev pub no_data_type : ℕ
+no_data_type = 15
+
+-- "type (0 to 15)"
+abbrev pub highest_type : ℕ
+highest_type = 15
+
+-- in a SID frame's core: "d(35) is STI", "d(36..39) a mode"
+abbrev pub sti_at : ℕ
+sti_at = 35
+
+abbrev pub sid_mode_at : ℕ
+sid_mode_at = 36
+
+-- in an IF1 frame of types 0 to 9: the bits at which indication, request, CRC and core begin
+abbrev pub indication_at : ℕ
+indication_at = 8
+
+abbrev pub request_at : ℕ
+request_at = 12
+
+abbrev pub crc_at : ℕ
+crc_at = 16
+
+abbrev pub if1_core_at : ℕ
+if1_core_at = 24
+
 -- ---- the table of types
 
 pub data Row : Type 0 where
@@ -80,7 +122,7 @@ core_octets t = octets_for (core_bits t)
 
 -- IF1 carries indication, request and CRC for types 0 to 9; its types 14 and 15 are the first octet alone
 abbrev pub carries_modes : Format → ℕ → Bool
-carries_modes if1 t = leb t 9
+carries_modes if1 t = leb t sid_type
 carries_modes if2 t = false
 carries_modes storage t = false
 
@@ -102,7 +144,7 @@ layout f x = pack (header f x ++ x.core)
 
 -- how many bits `header` has
 abbrev pub header_bits : Format → ℕ → ℕ
-header_bits if1 t = cond (leb t 9) 24 8
+header_bits if1 t = cond (leb t sid_type) if1_core_at 8
 header_bits if2 t = 5
 header_bits storage t = 8
 
@@ -133,8 +175,8 @@ frame_in f bs =
     record {
       type = t;
       quality = quality_in f bs;
-      indication = cond (carries_modes f t) (num 4 (drop 8 bs)) 0;
-      request = cond (carries_modes f t) (num 4 (drop 12 bs)) 0;
+      indication = cond (carries_modes f t) (num 4 (drop indication_at bs)) 0;
+      request = cond (carries_modes f t) (num 4 (drop request_at bs)) 0;
       core = core_in f t bs;
     }
 
@@ -151,7 +193,7 @@ spare_clear f bs = clear (spare_before f) bs && (clear (spare_after f) (drop (sp
 
 -- a SID frame's indication is 0, and its mode, d(36..39), is 0 to 8
 abbrev pub sid_good : ℕ → ℕ → ℕ → Bool
-sid_good t indication mode = not (eqb t 9) || (eqb indication 0 && leb mode 8)
+sid_good t indication mode = not (eqb t sid_type) || (eqb indication 0 && leb mode highest_mode)
 
 -- a field that the frame does not carry is 0
 abbrev pub uncarried_zero : Format → ℕ → ℕ → ℕ → Bool
@@ -160,12 +202,12 @@ uncarried_zero f t indication request = carries_modes f t || (eqb indication 0 &
 -- refusal 6: indication and request are modes, 0 to 8, and the two rules above hold
 unfoldable pub fields_good : Format → Frame → Bool
 fields_good f x =
-    leb x.indication 8
-    && (leb x.request 8
-    && (sid_good x.type x.indication (num 4 (drop 36 x.core)) && uncarried_zero f x.type x.indication x.request))
+    leb x.indication highest_mode
+    && (leb x.request highest_mode
+    && (sid_good x.type x.indication (num 4 (drop sid_mode_at x.core)) && uncarried_zero f x.type x.indication x.request))
 
 -- refusal 7: the CRC matches, at either quality
 unfoldable pub crc_good : Format → List Bool → Bool
 crc_good f bs =
     let t : ℕ = type_in f bs in
-    not (carries_modes f t) || eqb (num 8 (drop 16 bs)) (num 8 (crc (take (class_a t) (core_in f t bs))))
+    not (carries_modes f t) || eqb (num 8 (drop crc_at bs)) (num 8 (crc (take (class_a t) (core_in f t bs))))

@@ -2,11 +2,15 @@
 use Rattle.std.specs.Prelude.{Bool, true, false, ◌&&◌, cond, List, [], ◌∷◌, map, ℕ, zero, suc, ◌+◌, ◌-◌, length, get_or, eqb, leb}
 use Rattle.bits.specs.Bits.{one_if, pack}
 use Rattle.definitions.specs.Outcome.{Outcome, ok, unless}
-use Rattle.definitions.specs.Frames.{core_bits, core_octets}
+use Rattle.definitions.specs.Frames.{highest_mode, core_bits, core_octets}
 use Rattle.definitions.specs.Reading.{buffer_core, core_fill_clear}
 use Rattle.definitions.specs.Tables.{table0, table1, table2, table3, table4}
 
--- table_m; "modes 5 to 8 have frames but no codec order"
+-- "modes 5 to 8 have frames but no codec order"
+abbrev pub highest_ordered_mode : ℕ
+highest_ordered_mode = 4
+
+-- table_m
 unfoldable pub order_table : ℕ → List ℕ
 order_table zero = table0
 order_table (suc zero) = table1
@@ -57,16 +61,16 @@ unordered table d = map (λ n. get_or d (place_of n table) false) (numbers_from 
 -- from the row to the packed core in room octets: 11 a mode above 8, another length of the row or another value than 0 and 1; 12; 10
 unfoldable pub to_core_call : (mode : ℕ) → List ℕ → (room : ℕ) → Outcome (List ℕ)
 to_core_call mode row room =
-    unless 11 (leb mode 8 && (eqb (length row) (core_bits mode) && zero_or_one row))
-    (unless 12 (leb mode 4)
+    unless 11 (leb mode highest_mode && (eqb (length row) (core_bits mode) && zero_or_one row))
+    (unless 12 (leb mode highest_ordered_mode)
     (unless 10 (leb (core_octets mode) room)
     (ok (pack (ordered (order_table mode) (row_bits row))))))
 
 -- from the packed core to the row in room octets: 11 a mode above 8 or another length of the core; 5 as in a call that builds a frame; 12; 10
 unfoldable pub to_row_call : (mode : ℕ) → List ℕ → (room : ℕ) → Outcome (List ℕ)
 to_row_call mode core room =
-    unless 11 (leb mode 8 && eqb (length core) (core_octets mode))
+    unless 11 (leb mode highest_mode && eqb (length core) (core_octets mode))
     (unless 5 (core_fill_clear mode core)
-    (unless 12 (leb mode 4)
+    (unless 12 (leb mode highest_ordered_mode)
     (unless 10 (leb (core_bits mode) room)
     (ok (row_octets (unordered (order_table mode) (buffer_core core mode)))))))

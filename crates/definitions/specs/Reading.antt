@@ -2,7 +2,7 @@
 use Rattle.std.specs.Prelude.{Bool, true, false, not, ◌&&◌, ◌||◌, List, ◌++◌, ℕ, zero, suc, ◌-◌, ◌*◌, length, take, drop, eqb, leb}
 use Rattle.bits.specs.Bits.{clear, bits, pack}
 use Rattle.definitions.specs.Outcome.{Outcome, refused, ok, unless, and_then}
-use Rattle.definitions.specs.Frames.{Format, if1, if2, storage, Frame, frame_by, known, core_bits, octets, core_octets, layout, type_in, frame_in, spare_clear, fields_good, crc_good}
+use Rattle.definitions.specs.Frames.{Format, if1, if2, storage, highest_type, Frame, frame_by, known, core_bits, octets, core_octets, layout, type_in, frame_in, spare_clear, fields_good, crc_good}
 
 -- the frame at the start of the octets, with how many it takes; a single frame has nothing behind it. 1 no octets; 2 a reserved type;
 -- 3 fewer octets than the type's; 4 octets behind a single frame; 5 a spare or filling bit 1; 6 a mode above 8 or a field that must be 0
@@ -67,7 +67,7 @@ core_fill_clear t c = clear (8 * length c - core_bits t) (drop (core_bits t) (bi
 unfoldable pub build_check : Format → ℕ → ℕ → ℕ → ℕ → List ℕ → ℕ → Outcome (Frame × ℕ)
 build_check f t q i r c room =
     let x : Frame = frame_of t q i r c in
-    unless 11 (leb t 15 && (leb q 1 && (not (known t) || eqb (length c) (core_octets t))))
+    unless 11 (leb t highest_type && (leb q 1 && (not (known t) || eqb (length c) (core_octets t))))
     (unless 2 (known t)
     (unless 5 (core_fill_clear t c)
     (unless 6 (fields_good f x)

@@ -1,7 +1,7 @@
 -- The reception class (document 01, "Reception class and report"; TS 26.201 table 1c).
 use Rattle.std.specs.Prelude.{Bool, true, false, ◌&&◌, cond, ℕ, get_or, eqb, leb}
 use Rattle.definitions.specs.Outcome.{Outcome, ok, unless}
-use Rattle.definitions.specs.Frames.{Frame, known}
+use Rattle.definitions.specs.Frames.{Frame, highest_mode, sid_type, speech_lost_type, highest_type, sti_at, known}
 
 pub data SpeechClass : Type 0 where
   speech_good speech_bad : SpeechClass
@@ -28,15 +28,15 @@ sid_class true true = sid_update
 -- of a type that is known
 abbrev pub class_of : ℕ → Bool → Bool → Reception
 class_of t good sti =
-    cond (leb t 8) (speech (speech_class good)) (cond (eqb t 9) (sid (sid_class good sti)) (cond (eqb t 14) speech_lost no_data))
+    cond (leb t highest_mode) (speech (speech_class good)) (cond (eqb t sid_type) (sid (sid_class good sti)) (cond (eqb t speech_lost_type) speech_lost no_data))
 
--- of a frame; STI is d(35)
+-- of a frame
 abbrev pub frame_class : Frame → Reception
-frame_class x = class_of x.type (eqb x.quality 1) (get_or x.core 35 false)
+frame_class x = class_of x.type (eqb x.quality 1) (get_or x.core sti_at false)
 
 -- a call by numbers
 unfoldable pub reception_class : ℕ → ℕ → ℕ → Outcome Reception
 reception_class t q sti =
-    unless 11 (leb t 15 && (leb q 1 && leb sti 1))
+    unless 11 (leb t highest_type && (leb q 1 && leb sti 1))
     (unless 2 (known t)
     (ok (class_of t (eqb q 1) (eqb sti 1))))

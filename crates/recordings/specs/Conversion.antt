@@ -1,13 +1,13 @@
 -- The conversion (document 01, "Recordings and conversion", first paragraph).
 use Rattle.std.specs.Prelude.{cond, List, map, ℕ, length, leb}
-use Rattle.definitions.specs.Frames.{Format, if1, if2, storage, Frame, frame_by}
+use Rattle.definitions.specs.Frames.{Format, if1, if2, storage, highest_mode, sid_type, Frame, frame_by}
 use Rattle.definitions.specs.Reading.{format_numbered, overwritten}
 use Rattle.recordings.specs.Placed.{Placed, refused_at, done, unless_at, and_then_at, placed}
 use Rattle.recordings.specs.Recordings.{limit, read_recording, write_recording}
 
 -- "Towards IF1 from another format, indication is the type (0 for type 9), request is r (both 0 for types 14 and 15)"
 abbrev pub with_modes : ℕ → Frame → Frame
-with_modes r x = frame_by x.type x.quality (cond (leb x.type 8) x.type 0) (cond (leb x.type 9) r 0) x.core
+with_modes r x = frame_by x.type x.quality (cond (leb x.type highest_mode) x.type 0) (cond (leb x.type sid_type) r 0) x.core
 
 -- "each with its type, quality and core"
 abbrev pub without_modes : Frame → Frame
@@ -33,7 +33,7 @@ conversion f g r s =
 -- two formats and a request by their numbers, 11 judged first
 abbrev pub judged : {A : Type 0} → (from to request : ℕ) → (Format → Format → Placed A) → Placed A
 judged from to request next =
-    placed (format_numbered from) 0 0 (λ f. placed (format_numbered to) 0 0 (λ g. unless_at 11 (leb request 8) (next f g)))
+    placed (format_numbered from) 0 0 (λ f. placed (format_numbered to) 0 0 (λ g. unless_at 11 (leb request highest_mode) (next f g)))
 
 -- a call that converts a recording into a buffer of room octets: 11, then what `conversion` judges, then 10
 unfoldable pub convert_call : (from to request : ℕ) → List ℕ → (room : ℕ) → Placed (ℕ × List ℕ)
