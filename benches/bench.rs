@@ -107,8 +107,8 @@ fn check(kind: &str, recs: &[Vec<u8>; 3]) {
     }
 }
 
-/// Library, baseline and memcpy in turn, all directions a run: a change of the machine's speed meets all three, and no direction alone. The
-/// first two change places from run to run, since whoever comes first meets other caches.
+/// Library, baseline and memcpy in turn, all directions a run, so that a change of the machine's speed affects all three and every direction. The
+/// first two change places from run to run, since the first one finds the caches in another state.
 fn compare(kind: &str, runs: usize) {
     let (recs, frames) = recordings(kind, LIMIT);
     check(kind, &recs);

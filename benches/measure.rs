@@ -40,7 +40,7 @@ pub fn best_median(mut times: Vec<f64>) -> (f64, f64) {
 pub const COLUMNS: &str = "library best | median | baseline best | median | ratio of bests | of medians";
 
 /// Times the library (side 0) and the baseline (side 1) in turn, over so many frames, and gives nanoseconds per frame. The two change
-/// places from run to run, since whoever comes first meets other caches.
+/// places from run to run, since the first one finds the caches in another state.
 pub fn in_turn<T>(runs: usize, frames: usize, mut side: impl FnMut(usize) -> T) -> String {
     let mut times: [Vec<f64>; 2] = Default::default();
     for run in 0..runs {

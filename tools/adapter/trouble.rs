@@ -14,7 +14,7 @@ pub enum Status {
 
 /// What kept a command from doing its work with one input.
 pub enum Trouble {
-    /// With a note, empty where the number says it all.
+    /// With a note, empty where the number is enough.
     Refused(Refusal, String),
     /// Round trips that gave other octets, a line for each.
     Changed(Vec<String>),
@@ -64,7 +64,7 @@ impl Trouble {
         }]
     }
 
-    /// The message, with a margin; none for a reader of standard output that left, like `head`.
+    /// The message, with a margin; none where the reader of standard output has closed it, as `head` does.
     pub fn message(&self, margin: &str, name: &str) -> String {
         let name = match self {
             Trouble::Output(error) if error.kind() == ErrorKind::BrokenPipe => return String::new(),
@@ -80,7 +80,7 @@ impl Trouble {
     }
 }
 
-/// To standard error. Where that fails too, nobody is left to be told.
+/// To standard error. Where that fails too, the message is lost.
 pub fn say(text: &str) {
     let _ = io::stderr().write_all(text.as_bytes());
 }

@@ -1,6 +1,6 @@
 // The answers that the levels of the C interface share (include/amrwb.h), and how the entries' answers become them. Each has a number for each
 // thing, and 0 for what is not there: no export may hand an enum to C, and Result and Option are enums. Refusal, frame and octet are fields
-// of each, as C declares them: a struct of the three would lie there alike, but be one name more in every place that reads one.
+// of each, as C declares them: a struct of the three would have the same layout, and need one more name wherever one is read.
 #![tactic(auto)]
 
 ghost use Rattle.std.specs.Prelude.{◌≡◌, List, Bool, ℕ};

@@ -7,7 +7,7 @@ ghost use Rattle.bits.specs.Bits.{bits};
 
 use bits::{copy, copy_octets};
 
-// Octets `at` to `at + 15` of what `copy_by_groups` copies. All are read before one is written, so that the machine can move them at once.
+// Octets `at` to `at + 15` of what `copy_by_groups` copies. All are read before the first is written, so that they are moved as one vector.
 // Where the first `h` octets are copied, and `at` is not past them, the first `at + 16` then are.
 fn copy_group<const A: usize>(src: &[u8], dst: &mut [u8], at: usize)
     requires { (A < 8) × (8 * (at + 16) + A ≤ 8 * length src.now) × (at + 16 ≤ length dst.old) }
@@ -18,9 +18,8 @@ fn copy_group<const A: usize>(src: &[u8], dst: &mut [u8], at: usize)
     copy(&mut dst[at..at + 16], &group);
 }
 
-// Fills `dst` with octets of bits from bit `A` of `src` on, by groups of 16 that may begin within one another. For the conversion: no loop,
-// since a core's length is hard to foresee; `put_run` does not call it, so that the compiler makes it part of its one caller. The shift is a
-// constant: that is half the work.
+// Fills `dst` with octets of bits from bit `A` of `src` on, by groups of 16 that may overlap. No loop: the branch on the length is badly predicted.
+// The conversion is its only caller, so that it is inlined there. The shift is a const parameter: each is compiled by itself.
 pub fn copy_by_groups<const A: usize>(src: &[u8], dst: &mut [u8])
     requires { (A < 8) × (length dst.old ≤ 64) × (8 * length dst.old + A ≤ 8 * length src.now) }
     ensures { bits dst.new ≡ take (8 * length dst.old) (drop A (bits src.now)) }

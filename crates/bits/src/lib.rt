@@ -113,7 +113,7 @@ fn put_last(src: &[u8], from: usize, k: usize, dst: &mut [u8], j: usize)
 
 // Puts the `n` bits of `src` from index `from` behind the first `at` bits of `dst`, and fills their last octet up with 0. Later octets stay.
 // Up to an octet's border of `dst`, then whole octets, then the rest.
-// `src`, `from` and the count are no struct: each call below has a run of its own, and takes it apart at once.
+// `src`, `from` and `n` are separate arguments: each call below moves another run.
 pub fn put_run(src: &[u8], from: usize, n: usize, dst: &mut [u8], at: usize)
     requires { (from + n ≤ 8 * length src.now) × (at + n ≤ 8 * length dst.old) × (from + n < 2 ^ 32) × (at + n < 2 ^ 32) }
     ensures { dst.new ≡ pack (take at (bits dst.old) ++ take n (drop from (bits src.now))) ++ drop (octets_for (at + n)) dst.old }

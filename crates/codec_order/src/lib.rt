@@ -1,6 +1,5 @@
 // Codec order: the codec's bits, one octet of 0 or 1 for each, put in the order of the core frame and back. `order_to_core` and
-// `order_to_row` are entries. Mode, source and target are what the call is handed; no struct
-// holds them: the target would have to be lent out of it.
+// `order_to_row` are entries. Mode, source and target are separate arguments: a struct of them would borrow the target.
 #![tactic(auto)]
 
 ghost use Rattle.std.specs.Prelude.{◌≡◌, ◌≤◌, IfOk, leb, length};

@@ -43,8 +43,8 @@ fn split_read(
     Ok(subflows_of(h, link.forwarded, c))
 }
 
-// Splits an IF1 frame into the sub-flows of its type's combination. `pub` for level three, which adds the state after the call itself:
-// handed on once more it takes time.
+// Splits an IF1 frame into the sub-flows of its type's combination. `pub` for level three, which makes the state after the call itself:
+// passing the state through costs a copy.
 #[tactic(auto, using(std::proofs::lemmas::Bool::Decides::nat_tests), unfolding(links::specs::Calls::down_call))]
 pub fn split_frame(
     link: Link,

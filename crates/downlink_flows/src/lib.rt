@@ -57,7 +57,7 @@ fn put_subflow(frame: &[u8], from: usize, size: u16, s: &mut [u8])
 }
 
 // Splits the core that begins at bit `from` of `frame`. Sub-flow 3 starts at size 1 + size 2.
-// Three buffers and no struct of them: what a call leaves behind a struct of `&mut` is named in its contract by places, as `b.exit.1.1.0`.
+// Three buffers are three arguments: a contract names the fields of a struct of `&mut` after the call by position only, as `b.exit.1.1.0`.
 pub fn put_subflows(
     c: Combination,
     frame: &[u8],

@@ -34,8 +34,8 @@ fn front(f: Format, s: &[u8]) -> Result<FrameOctets<'_>, Refusal>
     })
 }
 
-// The tests in document 01's order. A part of each caller, so that the compiler makes those of Down, which knows the format, without asking it:
-// with one `judge` that all share, Down of a SID frame takes a third more time. `single` says whether one more test counts: no closure.
+// The tests in document 01's order; 4 is judged of a `single` frame only. Inlined, so that Down, whose format is constant, has no branches on it:
+// with one shared function Down of a SID frame takes a third more time.
 #[inline(always)]
 fn judge(single: bool, f: Format, s: &[u8]) -> Result<(FrameHeader, usize), Refusal>
     ensures { reading_of (λ t. core_in (format_of f) t (bits s.now)) result ≡ read_with single (format_of f) s.now }
@@ -57,8 +57,8 @@ fn judge(single: bool, f: Format, s: &[u8]) -> Result<(FrameHeader, usize), Refu
     Ok((h, x.size))
 }
 
-// The octets of a valid frame that carries no modes; of another frame, and of one that is refused, none. A part of each caller: so the
-// compiler makes the tests of one format without asking which it is.
+// The octets of a valid frame that carries no modes; of another frame, and of one that is refused, none. Inlined, so that the tests are compiled
+// for each format, without branches on it.
 #[inline(always)]
 fn plain(f: Format, s: &[u8]) -> Option<usize>
     ensures { IfSome result (λ n. Plain (format_of f) s.now n) }
@@ -87,8 +87,7 @@ pub fn read_next(f: Format, s: &[u8]) -> Result<(FrameHeader, usize), Refusal>
     judge(false, f, s)
 }
 
-// The same for the scan of a conversion, and for it alone: plain frames come first, since they are the most, and a function with one
-// caller becomes part of its loop.
+// `read_next` with a fast path for frames that carry no modes. Only the scan of a conversion calls it, so that it is inlined there.
 pub fn read_front(f: Format, s: &[u8]) -> Result<(FrameHeader, usize), Refusal>
     ensures { reading_of (λ t. core_in (format_of f) t (bits s.now)) result ≡ read_frame (format_of f) s.now }
 {

@@ -35,7 +35,7 @@ pub fn quality_in(f: Format, s: &[u8]) -> u8
     (s[0] >> (3 - spare_before(f))) & 1
 }
 
-// Nothing stands behind a single frame. A flag and no closure: it says whether this one test counts.
+// Nothing stands behind a single frame; of another this is not asked.
 pub fn ends(single: bool, len: usize, n: usize) -> bool
     ensures { result ≡ (not single || leb len n) }
 {

@@ -69,7 +69,7 @@ pub fn amrwb_link_down(
 ) -> DownNumbers
     ensures { FlatDown (down_call link frame.now (length s1.old) (length s2.old) (length s3.old)) link s1.old s1.new s2.old s2.new s3.old s3.new result }
 {
-    // Not by `down`: an answer that is handed on once more takes time.
+    // Not by `down`: passing the state through costs a copy.
     let answer = downlink::split_frame(link, frame, s1, s2, s3);
     let forwarded = downlink::forwarded_after(link.forwarded, answer);
     let link = Link { forwarded, ..link };

@@ -46,8 +46,8 @@ pub struct RfcSet {
     pub count: u32,
 }
 
-// A link's state: the set, the stored request (CMR), and the request that was last forwarded. It takes 96 octets: a host copies it by
-// whole groups of 16, and what comes in parts is slow to read back.
+// A link's state: the set, the stored request (CMR), and the request that was last forwarded. It takes 96 octets, a multiple of 16: a 92-octet copy
+// ends in an overlapping store, which stalls the next load.
 #[repr(C)]
 #[derive(Clone, Copy)]
 pub struct Link {

@@ -93,8 +93,8 @@ fn scan_frames(f: Format, g: Format, s: &[u8]) -> Result<Counts, RefusedAt>
         frames: 0,
         octets: header_octets(g),
     };
-    // A while: the place moves by whole frames. An iterator over them would hold it under the same invariant, its item a `Result` behind which
-    // nothing may come; and the compiler is to see the whole of this loop, whose speed is measured. `Viewer` hands frames out one by one.
+    // A while: the place moves by whole frames. An iterator over them needs the same invariant, and ends behind its first refusal; and this loop
+    // is to be compiled as a whole, since its speed is measured. `Viewer` hands frames out one by one.
     while at < s.len() {
         let (h, n) = read_front(f, &s[at..]).map_err(|refusal| RefusedAt {
             refusal,

@@ -34,8 +34,8 @@ fn write_frames(c: Conversion, s: &[u8], out: &mut [u8])
     }
 }
 
-// Writes a recording that was read; one that keeps its format is copied. No part of its caller: an export doesn't tell the compiler that the two
-// buffers are apart, and the copies would take more time.
+// Writes a recording that was read; one that keeps its format is copied. Not inlined: within an export the compiler no longer knows that the two
+// buffers do not overlap, and the copies take more time.
 #[inline(never)]
 pub fn write_recording(c: Conversion, s: &[u8], out: &mut [u8])
     requires { (xs : List Frame) × Convertible (format_of c.from) (format_of c.to) c.request s.now xs out.old }

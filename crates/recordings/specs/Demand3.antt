@@ -1,4 +1,4 @@
--- Demand 3, of a converter (document 01, "Recordings and conversion", last two paragraphs, and "CRC"; the owner's third demand).
+-- Demand 3, of a converter (document 01, "Recordings and conversion", second and third paragraphs, and "CRC"; the owner's third demand).
 use Rattle.std.specs.Prelude.{◌≡◌, Bool, cond, ◌↔◌, ◌≢◌, List, ◌∷◌, ◌++◌, map, ℕ, ◌+◌, ◌*◌, ◌≤◌, length, take, drop, leb}
 use Rattle.bits.specs.Bits.{Octets, bits}
 use Rattle.parity.specs.Claims.{Apart}

@@ -60,8 +60,7 @@ fn count_frames(s: &[u8]) -> Reported
         octets: s.len(),
         ..Report::default()
     };
-    // A while: the place moves by whole frames. An iterator over them would hold it under the same invariant, its item a `Result` behind which
-    // nothing may come.
+    // A while: the place moves by whole frames. An iterator over them needs the same invariant, and ends behind its first refusal.
     while at < s.len() {
         let (h, n) = read_next(Format::Storage, &s[at..]).map_err(|refusal| RefusedAt {
             refusal,

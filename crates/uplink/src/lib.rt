@@ -75,15 +75,15 @@ fn build_joined(
         frame_type: t,
         quality: quality_of(fqc),
         indication: i,
-        // Judged to be 8 at most: by try_from there would be one more test, and an error that cannot be.
+        // At most 8, as judged: `try_from` would add a test, and an error that cannot occur.
         request: request as u8,
     };
     write_modes(h, &core, 0, out);
     Ok(n)
 }
 
-// Makes an IF1 frame of three sub-flows, by FQC and RFCI. `pub` for level three, which has no use for the state handed on. Link, FQC, RFCI and
-// sub-flows are no struct: they are what the entry is handed, and three functions take them apart.
+// Makes an IF1 frame of three sub-flows, by FQC and RFCI. `pub` for level three, whose answer has no state. Link, FQC, RFCI and sub-flows are
+// separate arguments, as the entry has them.
 pub fn join_frame(
     link: Link,
     fqc: u64,

@@ -54,12 +54,12 @@ fn pick(link: &Link, fqc: Fqc, rfci: u64) -> Result<Combination, Refusal>
     if fqc == Fqc::Reserved {
         return Err(Refusal::FqcReserved);
     }
-    // The cast loses nothing behind the first test; by try_from there would be one more, and an error that cannot be.
+    // At most 63 behind the first test, so the cast loses nothing: `try_from` would add a test, and an error that cannot occur.
     lookup_rfci(&link.set, rfci as u8).ok_or(Refusal::NotInSet)
 }
 
 // What Up is to write. Some: the frame of a combination that has a core. None: a frame of type 15 with the FQC's quality. Of a bad frame
-// no sub-flow is read. Three functions and not one, since the compiler takes a call behind many tests for a rare one, and leaves it a call.
+// no sub-flow is read. A function of its own: behind many early returns the compiler treats a call as cold and does not inline it.
 pub fn judge(
     link: Link,
     fqc: u64,
