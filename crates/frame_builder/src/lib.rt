@@ -22,7 +22,7 @@ pub fn core_fill_clear(core: &[u8], k: usize) -> bool
     n == 0 || bits::low_bits(core, n, 8 * n - k) == 0
 }
 
-// Refusal 6's test of a frame to be built. `pub` for Up. Not one function with frame_tests' `header_good`: each knows where its SID mode stands.
+// Refusal 6's test of a frame to be built. `pub` for Up. Not one function with frame_tests' `header_good`, which finds the SID mode in a frame.
 pub fn core_fields_good(f: Format, t: u64, i: u64, r: u64, core: &[u8]) -> bool
     requires { length core.now ≡ octets_for (core_bits t) }
     ensures { (q : ℕ) → result ≡ fields_good (format_of f) (frame_by t q i r (buffer_core core.now t)) }
