@@ -4,5 +4,8 @@ pub mod Reading
 pub mod Tables
 pub mod Order
 pub mod Reception
+pub mod WrongClassifiers
 pub mod Claims
 pub mod Cases
+pub mod Bench
+pub mod WrongAnswerers

@@ -1,7 +1,7 @@
 -- The reception class (document 01, "Reception class and report"; TS 26.201 table 1c).
-use Rattle.std.specs.Prelude.{Bool, true, false, ◌&&◌, cond, ℕ, get_or, eqb, leb}
+use Rattle.std.specs.Prelude.{◌≡◌, Bool, true, false, ◌&&◌, cond, List, ℕ, ◌≤◌, length, get_or, eqb, leb}
 use Rattle.definitions.specs.Outcome.{Outcome, ok, unless}
-use Rattle.definitions.specs.Frames.{Frame, highest_mode, sid_type, speech_lost_type, highest_type, sti_at, known}
+use Rattle.definitions.specs.Frames.{Frame, frame_by, highest_mode, sid_type, speech_lost_type, no_data_type, highest_type, sti_at, known, sid_core}
 
 pub data SpeechClass : Type 0 where
   speech_good speech_bad : SpeechClass
@@ -40,3 +40,19 @@ reception_class t q sti =
     unless 11 (leb t highest_type && (leb q 1 && leb sti 1))
     (unless 2 (known t)
     (ok (class_of t (eqb q 1) (eqb sti 1))))
+
+-- ---- what is to be true of the class of a frame
+
+abbrev pub Classifier : Type 0
+Classifier = Frame → Reception
+
+-- "Types 0 to 8 are speech, good or bad; a comfort frame is first, update or bad, told by quality and then STI; type 14 is lost, 15 is empty, at
+-- either quality", and by nothing else: not by the other bits of the core, nor by indication and request
+pub record ClassifiesFrames (classify : Classifier) : Type 0 where
+  pub good_speech : (t i r : ℕ) (core : List Bool) → t ≤ highest_mode → classify (frame_by t 1 i r core) ≡ speech speech_good
+  pub bad_speech : (t i r : ℕ) (core : List Bool) → t ≤ highest_mode → classify (frame_by t 0 i r core) ≡ speech speech_bad
+  pub first_sid : (i r mode : ℕ) (s : List Bool) → length s ≡ 35 → classify (frame_by sid_type 1 i r (sid_core s false mode)) ≡ sid sid_first
+  pub update_sid : (i r mode : ℕ) (s : List Bool) → length s ≡ 35 → classify (frame_by sid_type 1 i r (sid_core s true mode)) ≡ sid sid_update
+  pub bad_sid : (i r mode : ℕ) (s : List Bool) (sti : Bool) → length s ≡ 35 → classify (frame_by sid_type 0 i r (sid_core s sti mode)) ≡ sid sid_bad
+  pub lost : (q i r : ℕ) (core : List Bool) → q ≤ 1 → classify (frame_by speech_lost_type q i r core) ≡ speech_lost
+  pub empty : (q i r : ℕ) (core : List Bool) → q ≤ 1 → classify (frame_by no_data_type q i r core) ≡ no_data

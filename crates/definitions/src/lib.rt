@@ -7,7 +7,10 @@ ghost use Rattle.std.specs.Prelude.{true};
 ghost use Rattle.definitions.specs.Reading.{read_frame, read_with, build_frame};
 ghost use Rattle.definitions.specs.Order.{to_core_call, to_row_call};
 ghost use Rattle.definitions.specs.Claims.{ReadsFrames, ReadsOneFrame, WrongReaders, LayoutsDiffer, BuildsFrames, TablesPermute, OrdersBack};
-ghost use Rattle.definitions.specs.Cases.{BenchCases};
+ghost use Rattle.definitions.specs.Reception.{frame_class, ClassifiesFrames};
+ghost use Rattle.definitions.specs.WrongClassifiers.{sti_at_34, sti_before_quality};
+ghost use Rattle.definitions.specs.Bench.{bench_answer, BenchCases};
+ghost use Rattle.definitions.specs.WrongAnswerers.{mode_low_bit_first, crc_of_whole_octets, if2_header_stored, no_added_one};
 
 // Does nothing. Its contract: demand 2 for a frame that is read where more may follow, and what is no such reader.
 pub fn reader_claim()
@@ -34,7 +37,19 @@ pub fn order_claim()
     ensures { TablesPermute × OrdersBack to_core_call to_row_call }
 {}
 
+// Does nothing. Its contract: the reception class of a frame is told by its type, its quality and the STI bit of a SID frame alone; and that the
+// classifier which takes d(34) for STI, and the one which tells SID frames by STI before quality, do not tell it.
+pub fn class_claim()
+    ensures { ClassifiesFrames frame_class × (ClassifiesFrames sti_at_34 → ⊥) × (ClassifiesFrames sti_before_quality → ⊥) }
+{}
+
 // Does nothing. Its contract: document 01's bench cases that are marked P.
 pub fn bench_claim()
-    ensures { BenchCases }
+    ensures { BenchCases bench_answer }
+{}
+
+// Does nothing. Its contract: a program that makes one of the errors met in the field fails the bench cases. One writes the mode of a SID frame
+// low bit first, one takes the CRC over whole octets, one gives stored frames IF2's header, and one does not add 1 to a table's numbers.
+pub fn field_errors_claim()
+    ensures { (BenchCases mode_low_bit_first → ⊥) × (BenchCases crc_of_whole_octets → ⊥) × (BenchCases if2_header_stored → ⊥) × (BenchCases no_added_one → ⊥) }
 {}
