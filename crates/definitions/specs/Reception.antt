@@ -1,7 +1,7 @@
 -- The reception class (document 01, "Reception class and report"; TS 26.201 table 1c).
 use Rattle.std.specs.Prelude.{◌≡◌, Bool, true, false, ◌&&◌, cond, List, ℕ, ◌≤◌, length, get_or, eqb, leb}
 use Rattle.definitions.specs.Outcome.{Outcome, ok, unless}
-use Rattle.definitions.specs.Frames.{Frame, frame_by, highest_mode, sid_type, speech_lost_type, no_data_type, highest_type, sti_at, known, sid_core}
+use Rattle.definitions.specs.Frames.{Frame, frame_by, highest_mode, sid_type, speech_lost_type, no_data_type, highest_type, sti_at, known, core_bits, sid_core}
 
 pub data SpeechClass : Type 0 where
   speech_good speech_bad : SpeechClass
@@ -56,3 +56,8 @@ pub record ClassifiesFrames (classify : Classifier) : Type 0 where
   pub bad_sid : (i r mode : ℕ) (s : List Bool) (sti : Bool) → length s ≡ 35 → classify (frame_by sid_type 0 i r (sid_core s sti mode)) ≡ sid sid_bad
   pub lost : (q i r : ℕ) (core : List Bool) → q ≤ 1 → classify (frame_by speech_lost_type q i r core) ≡ speech_lost
   pub empty : (q i r : ℕ) (core : List Bool) → q ≤ 1 → classify (frame_by no_data_type q i r core) ≡ no_data
+
+-- the claim decides every class: two such classifiers agree on each frame of a known type whose quality and core are as a format has them
+pub record ClassesFixed : Type 0 where
+  pub same : (c d : Classifier) → ClassifiesFrames c → ClassifiesFrames d → (x : Frame) → known x.type ≡ true → x.quality ≤ 1
+      → length x.core ≡ core_bits x.type → c x ≡ d x

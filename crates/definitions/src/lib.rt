@@ -7,7 +7,7 @@ ghost use Rattle.std.specs.Prelude.{true};
 ghost use Rattle.definitions.specs.Reading.{read_frame, read_with, build_frame};
 ghost use Rattle.definitions.specs.Order.{to_core_call, to_row_call};
 ghost use Rattle.definitions.specs.Claims.{ReadsFrames, ReadsOneFrame, WrongReaders, LayoutsDiffer, BuildsFrames, TablesPermute, OrdersBack};
-ghost use Rattle.definitions.specs.Reception.{frame_class, ClassifiesFrames};
+ghost use Rattle.definitions.specs.Reception.{frame_class, ClassifiesFrames, ClassesFixed};
 ghost use Rattle.definitions.specs.WrongClassifiers.{sti_at_34, sti_before_quality};
 ghost use Rattle.definitions.specs.Bench.{bench_answer, BenchCases};
 ghost use Rattle.definitions.specs.WrongAnswerers.{mode_low_bit_first, crc_of_whole_octets, if2_header_stored, no_added_one};
@@ -40,7 +40,7 @@ pub fn order_claim()
 // Does nothing. Its contract: the reception class of a frame is told by its type, its quality and the STI bit of a SID frame alone; and that the
 // classifier which takes d(34) for STI, and the one which tells SID frames by STI before quality, do not tell it.
 pub fn class_claim()
-    ensures { ClassifiesFrames frame_class × (ClassifiesFrames sti_at_34 → ⊥) × (ClassifiesFrames sti_before_quality → ⊥) }
+    ensures { ClassifiesFrames frame_class × ClassesFixed × (ClassifiesFrames sti_at_34 → ⊥) × (ClassifiesFrames sti_before_quality → ⊥) }
 {}
 
 // Does nothing. Its contract: document 01's bench cases that are marked P.
