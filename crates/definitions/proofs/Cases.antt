@@ -1,4 +1,4 @@
--- The bench cases hold by computation: both sides are closed. Assumes nothing.
+-- The bench cases hold by computation: the answers and the printed ones are closed terms. Assumes nothing.
 use mathlib.Core.Path.{refl}
 use mathlib.Core.Bool.{xor}
 use Rattle.bits.specs.Bits.{odd, digits, num, bits, packs, pack}

@@ -1,5 +1,5 @@
--- A frame's class. Of a SID frame d(35) stands behind the 35 codec bits, so it is STI whatever they are. A wrong classifier is tried on one SID
--- frame. Assumes nothing.
+-- A frame's class: d(35) stands behind the 35 codec bits of a SID frame, so it is STI whatever they are. The claim decides every class, since
+-- forty bits are such a core. A wrong classifier is tried on one SID frame. Assumes nothing.
 use mathlib.Core.Path.{◌≡◌, refl, sym, ap, ◌∙◌, subst}
 use mathlib.Core.Bool.{Bool, true, false, not, ◌||◌}
 use mathlib.Core.List.{List, [], ◌∷◌, ◌++◌}
@@ -34,7 +34,7 @@ classifies_frames = record {
   empty = λ q i r core h. refl;
 }
 
--- ---- nothing is left open
+-- ---- two classifiers of which it is true
 
 -- the five bits behind the codec bits
 sti_and_mode : (l : List Bool) → length l ≡ 5 → l ≡ get_or l 0 false ∷ digits 4 (num 4 (drop 1 l))

@@ -1,4 +1,4 @@
--- What the definitions answer to document 01's bench cases that are marked P, and the claim that it is what document 01 prints.
+-- What the definitions answer to document 01's bench cases that are marked P, and the claim that these are the printed answers.
 use Rattle.std.specs.Prelude.{◌≡◌, Bool, true, false, cond, List, [], ◌∷◌, ◌++◌, map, ℕ, ◌-◌, length, get_or, take, drop, replicate}
 use Rattle.definitions.specs.Frames.{if1, core_bits, layout}
 use Rattle.definitions.specs.Reading.{read_call}
@@ -21,7 +21,7 @@ sources_in m j (n ∷ ns) = cond (ordered_bit m (only_codec_bit (core_bits m) n)
 abbrev pub Answerer : Type 0
 Answerer = Question → Answer
 
--- by the definitions; CRC is IF1's third octet
+-- by the definitions; the CRC is IF1's third octet
 abbrev pub bench_answer : Answerer
 bench_answer (crc_octet x) = numbers (take 1 (drop 2 (layout if1 x)))
 bench_answer (octets_of f x) = numbers (layout f x)
@@ -35,7 +35,7 @@ answered a (case q p) = a q
 abbrev pub printed : Case → Answer
 printed (case q p) = p
 
--- a program answers each of the thirteen cases as printed
+-- there are thirteen cases, and each is answered as printed
 pub record BenchCases (a : Answerer) : Type 0 where
   pub thirteen : length bench_table ≡ 13
   pub each : map (answered a) bench_table ≡ map printed bench_table

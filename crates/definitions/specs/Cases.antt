@@ -1,5 +1,5 @@
--- The cases of document 01, "Bench cases", that are marked P, as a table: what is asked, and what document 01 prints. No definition that
--- answers is named here; those are in Bench.
+-- The cases of document 01, "Bench cases", that are marked P, as a table in its order: what is asked, and what document 01 prints. The table
+-- is data: the definitions that answer are in Bench, and none of them is named here.
 use Rattle.std.specs.Prelude.{true, false, List, [], ◌∷◌, ◌++◌, ℕ, ◌-◌, replicate}
 use Rattle.definitions.specs.Outcome.{Outcome, refused, ok}
 use Rattle.definitions.specs.Frames.{Format, if1, if2, storage, Frame, sid_core}
@@ -19,18 +19,20 @@ no_data_frame = record { type = 15; quality = 1; indication = 0; request = 0; co
 
 -- ---- what is asked
 
--- the CRC octet of a frame; its octets in a format, all of them or the first n; the numbers n of the codec bits s(n) of a mode that make
--- d(j) 1; and a call that reads one frame, by the format's number
 pub data Question : Type 0 where
+  -- the CRC octet of a frame
   crc_octet : Frame → Question
+  -- a frame's octets in a format: all of them, or the first n
   octets_of : Format → Frame → Question
   first_octets : (n : ℕ) → Format → Frame → Question
+  -- of a mode, the n of the codec bits s(n) that make d(j) 1, each tried where it alone is 1
   sources : (mode j : ℕ) → Question
+  -- a call that reads one frame, by the format's number
   one_frame : (format : ℕ) → List ℕ → Question
 
--- numbers; or what a call answers: the frame, and how many octets its packed core takes
 pub data Answer : Type 0 where
   numbers : List ℕ → Answer
+  -- of a call: the frame, and how many octets its packed core takes
   call : Outcome (Frame × ℕ) → Answer
 
 pub data Case : Type 0 where

@@ -118,7 +118,7 @@ octets f t = octet_column f (row_in type_table t)
 abbrev pub core_octets : ℕ → ℕ
 core_octets t = octets_for (core_bits t)
 
--- the core of a SID frame: "d(0..34) are s(1..35), d(35) is STI (0 first, 1 update), d(36..39) a mode, top bit first"
+-- the core of a SID frame (TS 26.201, 4.2.3): "d(0..34) are s(1..35), d(35) is STI (0 first, 1 update), d(36..39) a mode, top bit first"
 abbrev pub sid_core : (s : List Bool) → (sti : Bool) → (mode : ℕ) → List Bool
 sid_core s sti mode = s ++ (sti ∷ digits 4 mode)
 

@@ -5,6 +5,7 @@ pub mod Returning
 pub mod Trips
 pub mod Apart
 pub mod Demand3
+mod ThreeBits
 pub mod ViewCalls
 pub mod Viewer
 pub mod Report

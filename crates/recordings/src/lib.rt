@@ -6,6 +6,7 @@ ghost use Rattle.recordings.specs.Recordings.{read_recording};
 ghost use Rattle.recordings.specs.Conversion.{convert_call};
 ghost use Rattle.recordings.specs.Claims.{ReadsRecordings};
 ghost use Rattle.recordings.specs.Demand3.{Demand3, first_only};
+ghost use Rattle.recordings.specs.ThreeBits.{ThreeIsSharp};
 ghost use Rattle.recordings.specs.Viewer.{open_call, next_call, ViewsRecordings, passes_refused, skips_frames};
 ghost use Rattle.recordings.specs.Report.{report_call, AddsUp};
 
@@ -18,6 +19,12 @@ pub fn reader_claim()
 // Does nothing. Its contract: demand 3, and that the converter which copies the first frame and counts the others does not meet it.
 pub fn demand_three_claim()
     ensures { Demand3 convert_call × (Demand3 first_only → ⊥) }
+{}
+
+// Does nothing. Its contract: two valid IF1 recordings of a good frame can differ in exactly three of its Class A and CRC bits, here d(0), d(1) and
+// d(25) of type 0, so that demand 3's three is the most that holds.
+pub fn three_bits_claim()
+    ensures { ThreeIsSharp }
 {}
 
 // Does nothing. Its contract: a viewer that is opened hands out, over any number of calls, the recording's frames and then the end for ever,
