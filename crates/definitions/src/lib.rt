@@ -37,8 +37,8 @@ pub fn order_claim()
     ensures { TablesPermute × OrdersBack to_core_call to_row_call }
 {}
 
-// Does nothing. Its contract: the reception class of a frame is told by its type, its quality and the STI bit of a SID frame alone; and that the
-// classifier which takes d(34) for STI, and the one which tells SID frames by STI before quality, do not tell it.
+// Does nothing. Its contract: the reception class of a frame is told by its type, its quality and the STI bit of a SID frame alone; this decides the
+// class of every frame that a format can hold; and a classifier which takes d(34) for STI, or which tells SID frames by STI before quality, fails it.
 pub fn class_claim()
     ensures { ClassifiesFrames frame_class × ClassesFixed × (ClassifiesFrames sti_at_34 → ⊥) × (ClassifiesFrames sti_before_quality → ⊥) }
 {}
