@@ -1,13 +1,14 @@
 -- The reader of recordings, from the scan's laws and the tests in front of it. Assumes nothing.
 use mathlib.Core.Path.{◌≡◌, refl, sym, ap, ap₂, ◌∙◌, subst}
 use mathlib.Core.Bool.{Bool, true, false}
+use mathlib.Core.Logic.{◌≢◌}
 use mathlib.Core.List.{List, [], ◌∷◌, ◌++◌, append_assoc}
-use Prim.Native.Nat.{ℕ, ◌≤◌}
+use Prim.Native.Nat.{ℕ, ◌+◌, ◌≤◌}
 use native.Mathlib.Omega.{arith}
 use lib.Dec.{eqb, leb}
-use lib.ListN.{length, take, drop, length-append, take-append-drop}
+use lib.ListN.{length, take, drop, length-append, length-drop, take-append-drop}
 use lib.Seq.{take_at, drop_at}
-use borrow.Author.Tests.{leb-true, le-leb, eqb-true, eq-eqb}
+use borrow.Author.Tests.{leb-true, leb-false, le-leb, lt-leb, eqb-true, eq-eqb}
 use Rattle.bits.specs.Bits.{Octets}
 use Rattle.bits.proofs.BitLaws.{octets-drop}
 use Rattle.std.proofs.lemmas.Bool.{and_from}
@@ -17,8 +18,8 @@ use Rattle.definitions.specs.Frames.{Format, Frame}
 use Rattle.definitions.specs.Reading.{read_frame}
 use Rattle.recordings.specs.Placed.{Placed, refused_at, done, unless_at}
 use Rattle.recordings.specs.Recordings.{limit, file_header, same_octets, headed, scan, scan_frames, read_recording, layouts, write_recording}
-use Rattle.recordings.specs.Claims.{IsRecording, StopsAt, ReadsRecordings}
-use Rattle.recordings.proofs.Scan.{not_done, layouts-scan, scan-layouts, scan-stops}
+use Rattle.recordings.specs.Claims.{IsRecording, StopsAt, too_long, other_header, RecordingRefusal, in_front, stops_at, RecordingReader, ReadsRecordings, ReadersAgree}
+use Rattle.recordings.proofs.Scan.{not_done, layouts-scan, layouts-stop, scan-layouts, scan-stops}
 
 -- ---- the file header
 
@@ -40,11 +41,6 @@ octets-same a b e = subst (λ c. same_octets a c ≡ true) e (reflexive a)
 pub unless-done : {A : Type 0} (n : ℕ) (b : Bool) (w : Placed A) (a : A) → unless_at n b w ≡ done a → (b ≡ true) × (w ≡ done a)
 unless-done n true w a h = (refl, h)
 unless-done n false w a h = not_done n 0 0 a h
-
-pub unless-refused : {A : Type 0} (n m k at : ℕ) (b : Bool) (w : Placed A) → m ≤ 7 → 8 ≤ n → unless_at n b w ≡ refused_at m k at
-    → (b ≡ true) × (w ≡ refused_at m k at)
-unless-refused n m k at true w l g h = (refl, h)
-unless-refused n m k at false w l g h = absurd (let e : n ≡ m = cc in omega arith)
 
 -- ---- whole recordings
 
@@ -75,30 +71,95 @@ recording_read f xs r =
 pub is_read : (f : Format) (s : List ℕ) (xs : List Frame) → IsRecording f s xs → read_recording f s ≡ done xs
 is_read f s xs r = ap (read_recording f) r.laid ∙ recording_read f xs (subst (λ z. IsRecording f z xs) r.laid r)
 
-stops : (f : Format) (s : List ℕ) (n k at : ℕ) → Octets s → n ≤ 7 → read_recording f s ≡ refused_at n k at → StopsAt f s n k at
-unfolding read_recording write_recording
-stops f s n k at o l h =
+-- ---- refusals
+
+-- what a wrong header's test says
+pub headed-false : (f : Format) (s : List ℕ) → headed f s ≡ false → take (length (file_header f)) s ≢ file_header f
+headed-false f s e h = let t = octets-same _ _ h in let z : ◌≡◌ {A = ℕ} 0 1 = cc in omega arith
+
+pub not-headed : (f : Format) (s : List ℕ) → take (length (file_header f)) s ≢ file_header f → headed f s ≡ false
+not-headed f s h = go (headed f s) refl
+  where
+    go : (b : Bool) → headed f s ≡ b → b ≡ false
+    go false e = refl
+    go true e = absurd (h (same-octets _ _ e))
+
+stops : (f : Format) (s : List ℕ) (n k at : ℕ) → Octets s → headed f s ≡ true → scan_frames f s ≡ refused_at n k at → StopsAt f s n k at
+unfolding write_recording
+stops f s n k at o b h =
     let m = length (file_header f) in
-    let a = unless-refused 9 n k at (leb (length s) limit) (unless_at 8 (headed f s) (scan_frames f s)) l (omega arith) h in
-    let b = unless-refused 8 n k at (headed f s) (scan_frames f s) l (omega arith) a.1 in
-    let c = scan-stops f 0 0 m (drop m s) n k at (octets-drop m s o) b.1 in
+    let c = scan-stops f 0 0 m (drop m s) n k at (octets-drop m s o) h in
     let w = file_header f ++ layouts f c.xs in
     let p : length (file_header f ++ layouts f c.xs) ≡ at = omega (arith, length-append (file_header f) (layouts f c.xs), c.octet) in
     let e : (file_header f ++ layouts f c.xs) ++ c.rest ≡ s =
     append_assoc (file_header f) (layouts f c.xs) c.rest
-    ∙ ap₂ ◌++◌ (sym (same-octets (take m s) (file_header f) b.0)) c.laid ∙ take-append-drop m s in
+    ∙ ap₂ ◌++◌ (sym (same-octets (take m s) (file_header f) b)) c.laid ∙ take-append-drop m s in
     record {
       xs = c.xs;
       valid = c.valid;
       number = omega (arith, c.number);
       laid = ap (take at) (sym e) ∙ take_at w c.rest at p;
       octet = p;
+      left = omega (arith, c.left, ap length e, length-append (file_header f ++ layouts f c.xs) c.rest, p);
       refusal = subst (λ r. read_frame f r ≡ refused n) (sym (ap (drop at) (sym e) ∙ drop_at w c.rest at p)) c.refusal;
     }
+
+-- the octets behind the header, and that the header is right, where a recording stops
+pub stopped_octets : (f : Format) (s : List ℕ) (n k at : ℕ) (p : StopsAt f s n k at) → s ≡ file_header f ++ (layouts f p.xs ++ drop at s)
+unfolding write_recording
+stopped_octets f s n k at p =
+    sym (take-append-drop at s) ∙ ap (λ l. l ++ drop at s) p.laid ∙ append_assoc (file_header f) (layouts f p.xs) (drop at s)
+
+pub stopped_front : (f : Format) (s : List ℕ) (n k at : ℕ) → StopsAt f s n k at → headed f s ≡ true
+stopped_front f s n k at p =
+    octets-same _ _ (ap (take (length (file_header f))) (stopped_octets f s n k at p) ∙ take_at (file_header f) (layouts f p.xs ++ drop at s) _ refl)
+
+pub stopped_behind : (f : Format) (s : List ℕ) (n k at : ℕ) (p : StopsAt f s n k at) → drop (length (file_header f)) s ≡ layouts f p.xs ++ drop at s
+stopped_behind f s n k at p =
+    ap (drop (length (file_header f))) (stopped_octets f s n k at p) ∙ drop_at (file_header f) (layouts f p.xs ++ drop at s) _ refl
+
+stopped : (f : Format) (s : List ℕ) (n k at : ℕ) → length s ≤ limit → StopsAt f s n k at → read_recording f s ≡ refused_at n k at
+unfolding read_recording write_recording
+stopped f s n k at l p =
+    let m = length (file_header f) in
+    ap₂ (λ a b. unless_at 9 a (unless_at 8 b (scan_frames f s))) (le-leb _ _ l) (stopped_front f s n k at p)
+    ∙ ap (scan f 0 0 m) (stopped_behind f s n k at p)
+    ∙ layouts-stop f 0 m p.xs (drop at s) n p.valid (omega (arith, length-drop at s, p.left)) p.refusal
+    ∙ ap₂ (refused_at n) (omega (arith, p.number)) (omega (arith, p.octet, length-append (file_header f) (layouts f p.xs)))
+
+-- what an answer says: the tests in front of the frames, and then the scan
+abbrev Says : Format → List ℕ → Placed (List Frame) → Type 0
+Says f s (refused_at n k at) = RecordingRefusal f s n k at
+Says f s (done xs) = Unit {0}
+
+said : (f : Format) (s : List ℕ) → Octets s → Says f s (read_recording f s)
+unfolding read_recording
+said f s o = go (leb (length s) limit) refl (headed f s) refl (scan_frames f s) refl
+  where
+    go : (a : Bool) → leb (length s) limit ≡ a → (b : Bool) → headed f s ≡ b → (w : Placed (List Frame)) → scan_frames f s ≡ w
+        → Says f s (unless_at 9 a (unless_at 8 b w))
+    go false ea b eb w e = in_front (too_long (leb-false _ _ ea))
+    go true ea false eb w e = in_front (other_header (leb-true _ _ ea) (headed-false f s eb))
+    go true ea true eb (refused_at n k at) e = stops_at (leb-true _ _ ea) (stops f s n k at o eb e)
+    go true ea true eb (done xs) e = tt
+
+refused-read : (f : Format) (s : List ℕ) (n k at : ℕ) → RecordingRefusal f s n k at → read_recording f s ≡ refused_at n k at
+unfolding read_recording
+refused-read f s n k at (in_front (too_long l)) = rw (lt-leb (length s) limit l)
+refused-read f s n k at (in_front (other_header l h)) = rw (le-leb (length s) limit l, not-headed f s h)
+refused-read f s n k at (stops_at l p) = stopped f s n k at l p
 
 pub reads_recordings : ReadsRecordings read_recording
 reads_recordings = record {
   exactly = λ f s xs o. (read_recording_lem f s xs o, is_read f s xs);
   unique = λ f s xs ys o r q. (let e : done xs ≡ done ys = sym (is_read f s xs r) ∙ is_read f s ys q in cc);
-  stops = stops;
+  refuses = λ f s n k at o. (λ h. subst (Says f s) h (said f s o), refused-read f s n k at);
 }
+
+pub readers_agree : ReadersAgree
+readers_agree = record { same = λ read other r q f s o. go read other r q f s o (read f s) refl }
+  where
+    go : (read other : RecordingReader) → ReadsRecordings read → ReadsRecordings other → (f : Format) (s : List ℕ) → Octets s
+        → (w : Placed (List Frame)) → read f s ≡ w → w ≡ other f s
+    go read other r q f s o (refused_at n k at) e = sym ((q.refuses f s n k at o).1 ((r.refuses f s n k at o).0 e))
+    go read other r q f s o (done xs) e = sym ((q.exactly f s xs o).1 ((r.exactly f s xs o).0 e))

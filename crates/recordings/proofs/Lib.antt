@@ -10,4 +10,5 @@ pub mod ViewCalls
 pub mod Viewer
 pub mod Report
 mod Wrong
+mod WrongReaders
 mod WrongViewers

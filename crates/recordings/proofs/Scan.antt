@@ -2,7 +2,7 @@
 -- Assumes nothing.
 use mathlib.Core.Path.{◌≡◌, refl, sym, ap, ap₂, ◌∙◌, subst}
 use mathlib.Core.Bool.{false}
-use mathlib.Core.List.{List, [], ◌∷◌, ◌++◌, append_assoc}
+use mathlib.Core.List.{List, [], ◌∷◌, ◌++◌, append-nil, append_assoc}
 use Prim.Native.Nat.{ℕ, zero, suc, ◌+◌, ◌-◌, ◌≤◌}
 use native.Mathlib.Omega.{arith}
 use lib.ListN.{length, drop, length-append, take-append-drop}
@@ -52,15 +52,43 @@ pub scan_stop : (f : Format) (k at : ℕ) (s : List ℕ) (n : ℕ) → 1 ≤ len
 scan_stop f k at [] n l h = absurd (omega arith)
 scan_stop f k at (o ∷ s) n l h = ap (λ r. placed r k at (λ y. before y.0 (scan f (y.1 - 1) (suc k) (suc at) s))) h
 
--- ---- what is laid out is shown
+-- ---- what is laid out is shown, whatever stands behind it
+
+abbrev all_before : List Frame → Placed (List Frame) → Placed (List Frame)
+all_before [] w = w
+all_before (x ∷ xs) w = before x (all_before xs w)
+
+all-before-done : (xs : List Frame) → all_before xs (done []) ≡ done xs
+all-before-done [] = refl
+all-before-done (x ∷ xs) = ap (before x) (all-before-done xs)
+
+all-before-refused : (xs : List Frame) (n k at : ℕ) → all_before xs (refused_at n k at) ≡ refused_at n k at
+all-before-refused [] n k at = refl
+all-before-refused (x ∷ xs) n k at = ap (before x) (all-before-refused xs n k at)
+
+layouts_front : (f : Format) (k at : ℕ) (xs : List Frame) (rest : List ℕ) → Every (Valid f) xs
+    → scan f 0 k at (layouts f xs ++ rest) ≡ all_before xs (scan f 0 (k + length xs) (at + length (layouts f xs)) rest)
+layouts_front f k at [] rest none = ap₂ (λ i p. scan f 0 i p rest) (omega arith) (omega arith)
+layouts_front f k at (x ∷ xs) rest (first v vs) =
+    let n = octets f x.type in
+    ap (scan f 0 k at) (append_assoc (layout f x) (layouts f xs) rest)
+    ∙ scan_step f k at (layout f x ++ (layouts f xs ++ rest)) x n (read-layout false f x (layouts f xs ++ rest) v refl) (sized f x.type v.type_known).some-octet
+    ∙ ap (λ l. before x (scan f 0 (suc k) (at + n) l)) (drop_at (layout f x) (layouts f xs ++ rest) _ (length-layout f x v))
+    ∙ ap (before x)
+    (layouts_front f (suc k) (at + n) xs rest vs
+    ∙ ap₂ (λ i p. all_before xs (scan f 0 i p rest)) (omega arith)
+    (omega (arith, length-append (layout f x) (layouts f xs), length-layout f x v)))
 
 pub layouts-scan : (f : Format) (k at : ℕ) (xs : List Frame) → Every (Valid f) xs → scan f 0 k at (layouts f xs) ≡ done xs
-layouts-scan f k at [] none = refl
-layouts-scan f k at (x ∷ xs) (first v vs) =
-    let n = octets f x.type in
-    scan_step f k at (layout f x ++ layouts f xs) x n (read-layout false f x (layouts f xs) v refl) (sized f x.type v.type_known).some-octet
-    ∙ ap (λ l. before x (scan f 0 (suc k) (at + n) l)) (drop_at (layout f x) (layouts f xs) _ (length-layout f x v))
-    ∙ ap (before x) (layouts-scan f (suc k) (at + n) xs vs)
+layouts-scan f k at xs v = ap (scan f 0 k at) (sym (append-nil (layouts f xs))) ∙ layouts_front f k at xs [] v ∙ all-before-done xs
+
+-- where valid frames come first and the frame reader refuses what is left
+pub layouts-stop : (f : Format) (k at : ℕ) (xs : List Frame) (rest : List ℕ) (n : ℕ) → Every (Valid f) xs → 1 ≤ length rest → read_frame f rest ≡ refused n
+    → scan f 0 k at (layouts f xs ++ rest) ≡ refused_at n (k + length xs) (at + length (layouts f xs))
+layouts-stop f k at xs rest n v l h =
+    let j = k + length xs in
+    let p = at + length (layouts f xs) in
+    layouts_front f k at xs rest v ∙ ap (all_before xs) (scan_stop f j p rest n l h) ∙ all-before-refused xs n j p
 
 -- ---- what is shown was laid out
 
@@ -117,6 +145,7 @@ pub record Stopped (f : Format) (k at : ℕ) (s : List ℕ) (n j p : ℕ) : Type
   pub number : k + length xs ≡ j
   pub octet : at + length (layouts f xs) ≡ p
   pub laid : layouts f xs ++ rest ≡ s
+  pub left : 1 ≤ length rest
   pub refusal : read_frame f rest ≡ refused n
 
 pub scan-stops : (f : Format) (skip k at : ℕ) (s : List ℕ) (n j p : ℕ) → Octets s → scan f skip k at s ≡ refused_at n j p
@@ -138,6 +167,7 @@ scan-stops f zero k at (o ∷ s) n j p g h =
       number = let q : k ≡ j = cc in omega arith;
       octet = let q : at ≡ p = cc in omega arith;
       laid = refl;
+      left = omega arith;
       refusal = e ∙ ap refused (let q : m ≡ n = cc in q);
     }
     go (ok y) e w ih =
@@ -153,5 +183,6 @@ scan-stops f zero k at (o ∷ s) n j p g h =
           number = omega (arith, i.number);
           octet = omega (arith, i.octet, length-append (layout f x) (layouts f i.xs), v.size, shown-size f (o ∷ s) x m g e);
           laid = in_front f o s g x m e i.xs i.rest i.laid;
+          left = i.left;
           refusal = i.refusal;
         }

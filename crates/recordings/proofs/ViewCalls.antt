@@ -1,20 +1,23 @@
 -- The calls of a viewer: what each answers once its tests are decided, by the order of the definition. Assumes nothing.
-use mathlib.Core.Path.{◌≡◌, refl, sym, ap, ◌∙◌}
+use mathlib.Core.Path.{◌≡◌, refl, sym, ap, ◌∙◌, subst}
 use mathlib.Core.Bool.{Bool, true, false, ◌&&◌, cond}
+use mathlib.Core.Logic.{◌≢◌}
 use mathlib.Core.List.{List}
 use Prim.Native.Nat.{ℕ, zero, suc, ◌+◌, ◌<◌, ◌≤◌}
 use native.Mathlib.Omega.{arith}
 use lib.Dec.{eqb, leb}
 use lib.ListN.{length, drop}
-use borrow.Author.Tests.{le-leb, lt-leb, eq-eqb, ne_eqb, leb-true}
+use borrow.Author.Tests.{le-leb, lt-leb, eq-eqb, ne_eqb, leb-true, leb-false, eqb-true, eqb-false}
+use Rattle.std.proofs.Math.Bool.{and-false}
 use Rattle.definitions.specs.Outcome.{Outcome, refused, ok}
 use Rattle.definitions.specs.Frames.{Format, if1, if2, storage, Frame}
 use Rattle.definitions.specs.Reading.{read_frame, format_numbered}
 use Rattle.definitions.proofs.Frames.{never}
 use Rattle.recordings.specs.Placed.{Placed, refused_at, done, unless_at, placed}
 use Rattle.recordings.specs.Recordings.{limit, file_header, headed}
-use Rattle.recordings.specs.Viewer.{View, shows, end, open_call, next_call}
-use Rattle.recordings.proofs.Scan.{not_done}
+use Rattle.recordings.specs.Claims.{too_long, other_header, FrontRefusal}
+use Rattle.recordings.specs.Viewer.{View, shows, end, open_call, next_call, NextRefusal, past_the_recording, number_above, frame_refused}
+use Rattle.recordings.proofs.Claims.{headed-false}
 
 -- a format that is not known is 11
 pub unknown-number : (format n : ℕ) → format_numbered format ≡ refused n → n ≡ 11
@@ -23,6 +26,16 @@ unknown-number (suc zero) n e = never n if1 (sym e)
 unknown-number (suc (suc zero)) n e = never n if2 (sym e)
 unknown-number (suc (suc (suc zero))) n e = never n storage (sym e)
 unknown-number (suc (suc (suc (suc m)))) n e = cc
+
+-- what the answers of opening and of a call for the next frame say
+abbrev pub OpeningSays : Format → List ℕ → Placed (ℕ × ℕ) → Type 0
+OpeningSays f s (refused_at n k at) = FrontRefusal f s n × (k ≡ 0) × (at ≡ 0)
+OpeningSays f s (done place) = Unit {0}
+
+abbrev pub NextSays : Format → List ℕ → (k at : ℕ) → Placed View → Type 0
+NextSays f s k at (refused_at n j p) = NextRefusal f at k s n j p
+NextSays f s k at (done end) = (at ≡ length s) × (k ≤ at)
+NextSays f s k at (done (shows x j p)) = (n : ℕ) × (at ≤ length s) × (read_frame f (drop at s) ≡ ok (x, n))
 
 module _ (format : ℕ) (s : List ℕ) where
   pub open_unknown : format_numbered format ≡ refused 11 → open_call format s ≡ refused_at 11 0 0
@@ -51,9 +64,9 @@ module _ (format : ℕ) (s : List ℕ) where
     unfolding next_call
     next_past k at l = rw (found, ne_eqb at (length s) (λ q. omega arith), lt-leb at (length s) l)
 
-    pub next_above : (k at : ℕ) → at ≤ length s → at < k → next_call format at k s ≡ refused_at 11 0 0
+    pub next_above : (k at : ℕ) → at < k → next_call format at k s ≡ refused_at 11 0 0
     unfolding next_call
-    next_above k at l h = rw (found, le-leb at (length s) l, lt-leb k at h)
+    next_above k at h = rw (found, lt-leb k at h, and-false (leb at (length s)))
 
     pub next_end : (k at : ℕ) → at ≡ length s → k ≤ at → next_call format at k s ≡ done end
     unfolding next_call
@@ -64,10 +77,26 @@ module _ (format : ℕ) (s : List ℕ) where
     unfolding next_call
     next_frame k at o l h e = rw (found, le-leb at (length s) (omega arith), le-leb k at h, ne_eqb at (length s) (λ q. omega arith), e)
 
-    -- a frame that is shown was read at the place
-    pub next_shown : (k at : ℕ) (x : Frame) (j p : ℕ) → next_call format at k s ≡ done (shows x j p) → (n : ℕ) × (at ≤ length s) × (read_frame f (drop at s) ≡ ok (x, n))
+    -- what the answer of each call says
+    pub open_said : OpeningSays f s (open_call format s)
+    unfolding open_call
+    open_said = subst (OpeningSays f s) (sym is) (go (leb (length s) limit) refl (headed f s) refl)
+      where
+        after : Bool → Bool → Placed (ℕ × ℕ)
+        after a b = unless_at 9 a (unless_at 8 b (done (0, length (file_header f))))
+
+        is : open_call format s ≡ after (leb (length s) limit) (headed f s)
+        is = rw found
+
+        go : (a : Bool) → leb (length s) limit ≡ a → (b : Bool) → headed f s ≡ b → OpeningSays f s (after a b)
+        go false ea b eb = (too_long (leb-false _ _ ea), refl, refl)
+        go true ea false eb = (other_header (leb-true _ _ ea) (headed-false f s eb), refl, refl)
+        go true ea true eb = tt
+
+    pub next_said : (k at : ℕ) → NextSays f s k at (next_call format at k s)
     unfolding next_call
-    next_shown k at x j p h = go (leb at (length s)) (leb k at) (eqb at (length s)) (read_frame f (drop at s)) refl refl (sym is ∙ h)
+    next_said k at =
+        subst (NextSays f s k at) (sym is) (go (leb at (length s)) refl (leb k at) refl (eqb at (length s)) refl (read_frame f (drop at s)) refl)
       where
         after : Bool → Bool → Bool → Outcome (Frame × ℕ) → Placed View
         after a b c o = unless_at 11 (a && b) (cond c (done end) (placed o k at (λ y. done (shows y.0 (suc k) (at + y.1)))))
@@ -75,10 +104,16 @@ module _ (format : ℕ) (s : List ℕ) where
         is : next_call format at k s ≡ after (leb at (length s)) (leb k at) (eqb at (length s)) (read_frame f (drop at s))
         is = rw found
 
-        go : (a b c : Bool) (o : Outcome (Frame × ℕ)) → leb at (length s) ≡ a → read_frame f (drop at s) ≡ o → after a b c o ≡ done (shows x j p)
-            → (n : ℕ) × (at ≤ length s) × (read_frame f (drop at s) ≡ ok (x, n))
-        go false b c o e r w = not_done 11 0 0 (shows x j p) w
-        go true false c o e r w = not_done 11 0 0 (shows x j p) w
-        go true true true o e r w = absurd (let z : ◌≡◌ {A = ℕ} 0 1 = cc in omega arith)
-        go true true false (refused n) e r w = not_done n k at (shows x j p) w
-        go true true false (ok y) e r w = (y.1, leb-true _ _ e, r ∙ ap (λ x. ok (x, y.1)) (let q : y.0 ≡ x = cc in q))
+        go : (a : Bool) → leb at (length s) ≡ a → (b : Bool) → leb k at ≡ b → (c : Bool) → eqb at (length s) ≡ c
+            → (o : Outcome (Frame × ℕ)) → read_frame f (drop at s) ≡ o → NextSays f s k at (after a b c o)
+        go false ea b eb c ec o e = past_the_recording (leb-false _ _ ea)
+        go true ea false eb c ec o e = number_above (leb-false _ _ eb)
+        go true ea true eb true ec o e = (eqb-true _ _ ec, leb-true _ _ eb)
+        go true ea true eb false ec (refused n) e =
+            let p : at ≢ length s = eqb-false _ _ ec in
+            frame_refused (omega (arith, leb-true at (length s) ea)) (leb-true _ _ eb) e
+        go true ea true eb false ec (ok y) e = (y.1, leb-true _ _ ea, e)
+
+    -- a frame that is shown was read at the place
+    pub next_shown : (k at : ℕ) (x : Frame) (j p : ℕ) → next_call format at k s ≡ done (shows x j p) → (n : ℕ) × (at ≤ length s) × (read_frame f (drop at s) ≡ ok (x, n))
+    next_shown k at x j p h = subst (NextSays f s k at) h (next_said k at)

@@ -1,6 +1,6 @@
 -- A viewer goes through the frames as they are laid out, one a call, and then stays where it is: by induction over the frames and the
 -- calls. Assumes nothing.
-use mathlib.Core.Path.{◌≡◌, refl, sym, ap, ap₂, ◌∙◌}
+use mathlib.Core.Path.{◌≡◌, refl, sym, ap, ap₂, ◌∙◌, subst}
 use mathlib.Core.Bool.{Bool, true, false}
 use mathlib.Core.Logic.{◌⊎◌, ⊎_elim}
 use mathlib.Core.List.{List, [], ◌∷◌, ◌++◌, map, append-nil, append_assoc}
@@ -8,7 +8,7 @@ use Prim.Native.Nat.{ℕ, zero, suc, ◌+◌, ◌-◌, ◌≤◌, ◌<◌}
 use native.Mathlib.Omega.{arith}
 use lib.Dec.{leb}
 use lib.ListN.{length, take, drop, replicate, length-replicate, length-append, take-append-drop}
-use lib.Seq.{drop_at, drop-drop, drop-length, take_all}
+use lib.Seq.{take_at, drop_at, drop-drop, drop-length, take_all}
 use borrow.Author.Tests.{leb-true, leb-false}
 use Rattle.bits.specs.Bits.{Octets, bits}
 use Rattle.definitions.specs.Outcome.{Outcome, refused, ok, unless}
@@ -19,13 +19,12 @@ use Rattle.definitions.proofs.Tables.{sized}
 use Rattle.definitions.proofs.Frames.{never, length-layout, read-layout}
 use Rattle.recordings.specs.Placed.{Placed, refused_at, done, unless_at, placed}
 use Rattle.recordings.specs.Recordings.{limit, file_header, headed, before, scan, scan_frames, read_recording, layouts, write_recording}
-use Rattle.recordings.specs.Claims.{Every, none, first, StopsAt}
+use Rattle.recordings.specs.Claims.{Every, none, first, IsRecording, StopsAt, too_long, other_header, FrontRefusal}
 use Rattle.recordings.specs.Demand3.{format_number}
-use Rattle.recordings.specs.Viewer.{View, shows, open_call, next_call, Handed, frame, the_end, refusal, handed, moved, in_turn, Hands, ViewsRecordings}
-use Rattle.recordings.proofs.Scan.{not_refused, before-refused}
-use Rattle.recordings.proofs.Claims.{unless-done, unless-refused, read_recording_lem, is_read}
+use Rattle.recordings.specs.Viewer.{View, shows, open_call, next_call, Handed, frame, the_end, refusal, handed, moved, in_turn, Hands, NextRefusal, past_the_recording, number_above, frame_refused, ViewsRecordings}
+use Rattle.recordings.proofs.Claims.{octets-same, not-headed, stopped_front, stopped_behind}
 use Rattle.recordings.proofs.Trips.{format_numbered_lem}
-use Rattle.recordings.proofs.ViewCalls.{open_unknown, open_too_long, open_not_headed, open_first, unknown-number, next_unknown, next_past, next_above, next_end, next_frame}
+use Rattle.recordings.proofs.ViewCalls.{OpeningSays, NextSays, open_unknown, open_too_long, open_not_headed, open_first, open_said, next_unknown, next_past, next_above, next_end, next_frame, next_said}
 
 -- ---- lists that end in one element again and again
 
@@ -80,122 +79,56 @@ few f (x ∷ xs) (first v vs) =
 
 -- ---- a valid recording
 
-valid : (f : Format) (s : List ℕ) (xs : List Frame) → Octets s → read_recording f s ≡ done xs → Hands open_call next_call f s xs the_end
-unfolding read_recording write_recording
-valid f s xs o h =
+valid : (f : Format) (s : List ℕ) (xs : List Frame) → IsRecording f s xs → Hands open_call next_call f s xs the_end
+unfolding write_recording
+valid f s xs r =
     let n = length (file_header f) in
-    let a = unless-done 9 (leb (length s) limit) (unless_at 8 (headed f s) (scan_frames f s)) xs h in
-    let b = unless-done 8 (headed f s) (scan_frames f s) xs a.1 in
-    let r = read_recording_lem f s xs o h in
+    let t : take n s ≡ file_header f = ap (take n) r.laid ∙ take_at (file_header f) (layouts f xs) n refl in
     let size : n + length (layouts f xs) ≡ length s = sym (length-append (file_header f) (layouts f xs)) ∙ sym (ap length r.laid) in
     let d : drop n s ≡ layouts f xs ++ drop (length s) s =
     ap (drop n) r.laid ∙ drop_at (file_header f) (layouts f xs) n refl ∙ sym (append-nil (layouts f xs)) ∙ ap (λ l. layouts f xs ++ l) (sym (drop-length s)) in
     let w = next_end (format_number f) s f (format_numbered_lem f) (length xs) (length s) refl (omega (arith, few f xs r.valid, size)) in
     record {
       place = (0, n);
-      opens = open_first (format_number f) s f (format_numbered_lem f) _ (leb-true _ _ a.0) b.0 refl;
+      opens = open_first (format_number f) s f (format_numbered_lem f) _ r.within (octets-same _ _ t) refl;
       hands = goes f s the_end (length xs) (length s) (omega arith) (ap handed w) (ap (λ w. moved w (length xs, length s)) w) xs 0 n r.valid d (omega arith) size (omega arith);
     }
 
 -- ---- a recording that stops
 
--- octets are left where it stops: else it were valid
-left_over : (f : Format) (s : List ℕ) (n k at : ℕ) → length s ≤ limit → read_recording f s ≡ refused_at n k at → StopsAt f s n k at → at < length s
-left_over f s n k at l h p = go (leb (length s) at) refl
-  where
-    go : (b : Bool) → leb (length s) at ≡ b → at < length s
-    go false e = leb-false _ _ e
-    go true e =
-        let laid : s ≡ write_recording f p.xs = sym (take_all at s (leb-true _ _ e)) ∙ p.laid in
-        not_refused n k at p.xs (sym (is_read f s p.xs (record { valid = p.valid; laid = laid; within = l })) ∙ h)
-
-stopped : (f : Format) (s : List ℕ) (n k at : ℕ) → Octets s → n ≤ 7 → read_recording f s ≡ refused_at n k at → (p : StopsAt f s n k at)
-    → Hands open_call next_call f s p.xs (refusal n k at)
-unfolding read_recording write_recording
-stopped f s n k at o l h p =
+stopped : (f : Format) (s : List ℕ) (n k at : ℕ) → length s ≤ limit → (p : StopsAt f s n k at) → Hands open_call next_call f s p.xs (refusal n k at)
+unfolding write_recording
+stopped f s n k at l p =
     let m = length (file_header f) in
-    let a = unless-refused 9 n k at (leb (length s) limit) (unless_at 8 (headed f s) (scan_frames f s)) l (omega arith) h in
-    let b = unless-refused 8 n k at (headed f s) (scan_frames f s) l (omega arith) a.1 in
     let size = length-append (file_header f) (layouts f p.xs) in
-    let some = left_over f s n k at (leb-true _ _ a.0) h p in
-    let e : s ≡ file_header f ++ (layouts f p.xs ++ drop at s) =
-    sym (take-append-drop at s) ∙ ap (λ l. l ++ drop at s) p.laid ∙ append_assoc (file_header f) (layouts f p.xs) (drop at s) in
-    let d : drop m s ≡ layouts f p.xs ++ drop at s = ap (drop m) e ∙ drop_at (file_header f) (layouts f p.xs ++ drop at s) m refl in
-    let w = next_frame (format_number f) s f (format_numbered_lem f) k at (refused n) some (omega (arith, few f p.xs p.valid, size, p.octet, p.number)) p.refusal in
+    let w = next_frame (format_number f) s f (format_numbered_lem f) k at (refused n) p.left (omega (arith, few f p.xs p.valid, size, p.octet, p.number)) p.refusal in
     record {
       place = (0, m);
-      opens = open_first (format_number f) s f (format_numbered_lem f) _ (leb-true _ _ a.0) b.0 refl;
-      hands = goes f s (refusal n k at) k at (omega arith) (ap handed w) (ap (λ w. moved w (k, at)) w) p.xs 0 m p.valid d (omega (arith, p.number)) (omega (arith, size, p.octet)) (omega arith);
+      opens = open_first (format_number f) s f (format_numbered_lem f) _ l (stopped_front f s n k at p) refl;
+      hands = goes f s (refusal n k at) k at (omega (arith, p.left)) (ap handed w) (ap (λ w. moved w (k, at)) w) p.xs 0 m p.valid (stopped_behind f s n k at p) (omega (arith, p.number)) (omega (arith, size, p.octet)) (omega arith);
     }
 
--- ---- a recording that is not opened
+-- ---- what is refused
 
--- a frame is refused by 1 to 7
-unless-number : {A : Type 0} (m n : ℕ) (b : Bool) (r : Outcome A) → m ≤ 7 → (r ≡ refused n → n ≤ 7) → unless m b r ≡ refused n → n ≤ 7
-unless-number m n true r l g h = g h
-unless-number m n false r l g h = let e : m ≡ n = cc in omega arith
+opening-refused : (f : Format) (s : List ℕ) (n : ℕ) → FrontRefusal f s n → open_call (format_number f) s ≡ refused_at n 0 0
+opening-refused f s n (too_long l) = open_too_long (format_number f) s f (format_numbered_lem f) l
+opening-refused f s n (other_header l h) = open_not_headed (format_number f) s f (format_numbered_lem f) l (not-headed f s h)
 
-frame-number : (f : Format) (s : List ℕ) (n : ℕ) → read_frame f s ≡ refused n → n ≤ 7
-unfolding read_with
-frame-number f s n =
-    let bs = bits s in
-    let t = type_in f bs in
-    let x = frame_in f bs in
-    let m = octets f t in
-    let r₇ : Outcome (Frame × ℕ) = unless 7 (crc_good f bs) (ok (x, m)) in
-    let r₆ : Outcome (Frame × ℕ) = unless 6 (fields_good f x) r₇ in
-    let r₅ : Outcome (Frame × ℕ) = unless 5 (spare_clear f bs) r₆ in
-    let r₃ : Outcome (Frame × ℕ) = unless 3 (leb m (length s)) r₅ in
-    let r₂ : Outcome (Frame × ℕ) = unless 2 (known t) r₃ in
-    unless-number 1 n (leb 1 (length s)) r₂ (omega arith)
-    (unless-number 2 n (known t) r₃ (omega arith)
-    (unless-number 3 n (leb m (length s)) r₅ (omega arith)
-    (unless-number 5 n (spare_clear f bs) r₆ (omega arith)
-    (unless-number 6 n (fields_good f x) r₇ (omega arith)
-    (unless-number 7 n (crc_good f bs) (ok (x, m)) (omega arith) (λ h. never n (x, m) (sym h)))))))
-
-scan-number : (f : Format) (skip k at : ℕ) (s : List ℕ) (n j p : ℕ) → scan f skip k at s ≡ refused_at n j p → n ≤ 7
-scan-number f skip k at [] n j p h = not_refused n j p [] h
-scan-number f (suc skip) k at (o ∷ s) n j p h = scan-number f skip k (suc at) s n j p h
-scan-number f zero k at (o ∷ s) n j p h = go (read_frame f (o ∷ s)) refl h (λ skip e. scan-number f skip (suc k) (suc at) s n j p e)
-  where
-    go : (r : Outcome (Frame × ℕ)) → read_frame f (o ∷ s) ≡ r
-        → placed r k at (λ y. before y.0 (scan f (y.1 - 1) (suc k) (suc at) s)) ≡ refused_at n j p
-        → ((skip : ℕ) → scan f skip (suc k) (suc at) s ≡ refused_at n j p → n ≤ 7) → n ≤ 7
-    go (refused m) e w ih = frame-number f (o ∷ s) n (e ∙ ap refused (let q : m ≡ n = cc in q))
-    go (ok y) e w ih = ih (y.1 - 1) (before-refused y.0 (scan f (y.1 - 1) (suc k) (suc at) s) n j p w)
-
-unopened : (f : Format) (s : List ℕ) (n k at : ℕ) → 8 ≤ n → read_recording f s ≡ refused_at n k at → open_call (format_number f) s ≡ refused_at n k at
-unfolding read_recording
-unopened f s n k at l h = go (leb (length s) limit) refl (headed f s) refl h
-  where
-    same : Placed (List Frame) → Placed (ℕ × ℕ)
-    same (refused_at n k at) = refused_at n k at
-    same (done xs) = done (0, 0)
-
-    go : (a : Bool) → leb (length s) limit ≡ a → (b : Bool) → headed f s ≡ b → unless_at 9 a (unless_at 8 b (scan_frames f s)) ≡ refused_at n k at
-        → open_call (format_number f) s ≡ refused_at n k at
-    go false ea b eb w = open_too_long (format_number f) s f (format_numbered_lem f) (leb-false _ _ ea) ∙ ap same w
-    go true ea false eb w = open_not_headed (format_number f) s f (format_numbered_lem f) (leb-true _ _ ea) eb ∙ ap same w
-    go true ea true eb w =
-        let m = length (file_header f) in
-        absurd (omega (arith, scan-number f 0 0 m (drop m s) n k at w))
-
--- ---- the arguments
-
-judges : (format offset number : ℕ) (s : List ℕ) → (length s < offset) ⊎ (offset < number) → next_call format offset number s ≡ refused_at 11 0 0
-judges format offset number s h = go (format_numbered format) refl (leb offset (length s)) refl
-  where
-    go : (o : Outcome Format) → format_numbered format ≡ o → (b : Bool) → leb offset (length s) ≡ b → next_call format offset number s ≡ refused_at 11 0 0
-    go (refused n) e b l = next_unknown format s number offset (e ∙ ap refused (unknown-number format n e))
-    go (ok f) e false l = next_past format s f e number offset (leb-false _ _ l)
-    go (ok f) e true l = ⊎_elim (λ p. absurd (omega (arith, leb-true offset (length s) l))) (λ p. next_above format s f e number offset (leb-true _ _ l) p) h
+next-refused : (f : Format) (offset number : ℕ) (s : List ℕ) (n k at : ℕ) → NextRefusal f offset number s n k at
+    → next_call (format_number f) offset number s ≡ refused_at n k at
+next-refused f offset number s n k at (past_the_recording l) = next_past (format_number f) s f (format_numbered_lem f) number offset l
+next-refused f offset number s n k at (number_above l) = next_above (format_number f) s f (format_numbered_lem f) number offset l
+next-refused f offset number s n k at (frame_refused l h e) = next_frame (format_number f) s f (format_numbered_lem f) number offset (refused n) l h e
 
 pub views_recordings : ViewsRecordings open_call next_call
 views_recordings = record {
-  valid = valid;
-  stopped = stopped;
-  unopened = unopened;
+  valid = λ f s xs o. valid f s xs;
+  stopped = λ f s n k at o. stopped f s n k at;
   unknown = λ format offset number s e. (open_unknown format s e, next_unknown format s number offset e);
-  judges = judges;
+  unopened = λ f s n k at. (λ h. subst (OpeningSays f s) h (open_said (format_number f) s f (format_numbered_lem f)),
+      λ r. opening-refused f s n r.0 ∙ ap₂ (refused_at n) (sym r.1) (sym r.2));
+  refuses = λ f offset number s n k at. (λ h. subst (NextSays f s number offset) h (next_said (format_number f) s f (format_numbered_lem f) number offset),
+      next-refused f offset number s n k at);
+  ends = λ f offset number s. (λ h. subst (NextSays f s number offset) h (next_said (format_number f) s f (format_numbered_lem f) number offset),
+      λ e. next_end (format_number f) s f (format_numbered_lem f) number offset e.0 e.1);
 }

@@ -9,9 +9,11 @@ use Rattle.bits.specs.Bits.{Octets, odd, digits, num, bits, packs, pack}
 use Rattle.definitions.specs.Frames.{if2, Frame, known, core_bits, octets, frame_in, spare_clear, fields_good, crc_good}
 use Rattle.definitions.specs.Reading.{read_with}
 use Rattle.definitions.specs.Cases.{no_data_frame}
-use Rattle.recordings.specs.Placed.{refused_at, done}
-use Rattle.recordings.specs.Recordings.{read_recording}
-use Rattle.recordings.specs.Viewer.{open_call, next_call, Stepper, Handed, frame, the_end, refusal, in_turn, Hands, ViewsRecordings, passes_refused, skips_frames}
+use Rattle.recordings.specs.Placed.{done}
+use Rattle.recordings.specs.Recordings.{read_recording, write_recording}
+use Rattle.recordings.specs.Claims.{none, IsRecording, StopsAt}
+use Rattle.recordings.specs.Viewer.{open_call, next_call, Stepper, Handed, frame, the_end, refusal, in_turn, Hands, ViewsRecordings}
+use Rattle.recordings.specs.WrongViewers.{passes_refused, skips_frames}
 use Rattle.recordings.proofs.Claims.{reads_recordings}
 use Rattle.recordings.proofs.Trips.{octets_packed}
 
@@ -32,9 +34,9 @@ reserved_octets : Octets reserved
 unfolding odd digits num bits packs pack
 reserved_octets = octets_packed reserved refl
 
-reserved_read : read_recording if2 reserved ≡ refused_at 2 0 0
-unfolding read_recording read_with odd digits num bits known core_bits octets frame_in spare_clear fields_good crc_good
-reserved_read = refl
+reserved_stops : StopsAt if2 reserved 2 0 0
+unfolding write_recording read_with odd digits num bits known core_bits octets frame_in spare_clear fields_good crc_good
+reserved_stops = record { xs = []; valid = none; number = refl; laid = refl; octet = refl; left = omega arith; refusal = refl }
 
 reserved_opens : open_call 2 reserved ≡ done (0, 0)
 unfolding open_call
@@ -44,17 +46,12 @@ reserved_passed : in_turn (λ p. passes_refused 2 p.1 p.0 reserved) 1 (0, 0) ≡
 unfolding next_call read_with odd digits num bits known core_bits octets frame_in spare_clear fields_good crc_good
 reserved_passed = refl
 
-no_frames : (xs : List Frame) → length xs ≡ 0 → xs ≡ []
-no_frames [] e = refl
-no_frames (x ∷ xs) e = absurd (omega arith)
-
 pub passes_refused_lem : ViewsRecordings open_call passes_refused → ⊥
+unfolding reserved_stops
 passes_refused_lem v =
-    let p = reads_recordings.stops if2 reserved 2 0 0 reserved_octets (omega arith) reserved_read in
-    let h = v.stopped if2 reserved 2 0 0 reserved_octets (omega arith) reserved_read p in
+    let h = v.stopped if2 reserved 2 0 0 reserved_octets (omega arith) reserved_stops in
     let e : frame no_data_frame ∷ [] ≡ refusal 2 0 0 ∷ [] =
-    sym reserved_passed ∙ starts passes_refused reserved p.xs (refusal 2 0 0) reserved_opens h 1
-    ∙ ap (λ xs. take 1 (map frame xs ++ replicate 1 (refusal 2 0 0))) (no_frames p.xs p.number) in
+    sym reserved_passed ∙ starts passes_refused reserved [] (refusal 2 0 0) reserved_opens h 1 in
     let z : ◌≡◌ {A = ℕ} 0 1 = cc in omega arith
 
 -- two frames without data
@@ -69,6 +66,9 @@ two_read : read_recording if2 two ≡ done (no_data_frame ∷ no_data_frame ∷ 
 unfolding read_recording read_with odd digits num bits known core_bits octets frame_in spare_clear fields_good crc_good
 two_read = refl
 
+two_is : IsRecording if2 two (no_data_frame ∷ no_data_frame ∷ [])
+two_is = (reads_recordings.exactly if2 two (no_data_frame ∷ no_data_frame ∷ []) two_octets).0 two_read
+
 two_opens : open_call 2 two ≡ done (0, 0)
 unfolding open_call
 two_opens = refl
@@ -80,5 +80,5 @@ two_skipped = refl
 pub skips_frames_lem : ViewsRecordings open_call skips_frames → ⊥
 skips_frames_lem v =
     let e : frame no_data_frame ∷ the_end ∷ [] ≡ frame no_data_frame ∷ frame no_data_frame ∷ [] =
-    sym two_skipped ∙ starts skips_frames two (no_data_frame ∷ no_data_frame ∷ []) the_end two_opens (v.valid if2 two (no_data_frame ∷ no_data_frame ∷ []) two_octets two_read) 2 in
+    sym two_skipped ∙ starts skips_frames two (no_data_frame ∷ no_data_frame ∷ []) the_end two_opens (v.valid if2 two (no_data_frame ∷ no_data_frame ∷ []) two_octets two_is) 2 in
     let z : ◌≡◌ {A = ℕ} 0 1 = cc in omega arith

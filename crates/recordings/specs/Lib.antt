@@ -2,7 +2,9 @@ pub mod Placed
 pub mod Recordings
 pub mod Conversion
 pub mod Claims
+pub mod WrongRecordingReaders
 pub mod Demand3
 pub mod ThreeBits
 pub mod Viewer
+pub mod WrongViewers
 pub mod Report

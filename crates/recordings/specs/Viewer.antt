@@ -1,12 +1,12 @@
 -- The viewer (document 01, "Recordings and conversion", last paragraph).
-use Rattle.std.specs.Prelude.{◌≡◌, ◌⊎◌, ◌&&◌, cond, List, [], ◌∷◌, ◌++◌, map, ℕ, zero, suc, ◌+◌, ◌<◌, ◌≤◌, length, take, drop, replicate, eqb, leb}
+use Rattle.std.specs.Prelude.{◌≡◌, ◌&&◌, cond, ◌↔◌, List, [], ◌∷◌, ◌++◌, map, ℕ, zero, suc, ◌+◌, ◌<◌, ◌≤◌, length, take, drop, replicate, eqb, leb}
 use Rattle.bits.specs.Bits.{Octets, pack}
 use Rattle.definitions.specs.Outcome.{refused}
 use Rattle.definitions.specs.Frames.{Format, Frame}
 use Rattle.definitions.specs.Reading.{read_frame, format_numbered, into_buffer, overwritten}
 use Rattle.recordings.specs.Placed.{Placed, refused_at, done, unless_at, and_then_at, placed}
-use Rattle.recordings.specs.Recordings.{file_header, read_recording, judged_front}
-use Rattle.recordings.specs.Claims.{StopsAt}
+use Rattle.recordings.specs.Recordings.{limit, file_header, judged_front}
+use Rattle.recordings.specs.Claims.{IsRecording, StopsAt, FrontRefusal}
 use Rattle.recordings.specs.Demand3.{format_number}
 
 -- what a viewer hands out: a frame, with the number and the offset of the one behind it, or the end of the recording
@@ -78,32 +78,25 @@ pub record Hands (opening : Opener) (next : Stepper) (f : Format) (s : List ℕ)
   pub opens : opening (format_number f) s ≡ done place
   pub hands : (m : ℕ) → in_turn (λ p. next (format_number f) p.1 p.0 s) m place ≡ take m (map frame xs ++ replicate m last)
 
--- demand 2, of a viewer: of a valid recording it hands out exactly the list of frames, then the end; of another the frames in front of the
--- first refused one, then its refusal; what the file header's check or the limit refuses is not opened. A format that is not known is 11, and so is "an
--- offset past the recording, or a frame number above the offset"
+-- what refuses a call for the next frame, once the format is known: "an offset past the recording, or a frame number above the offset, is 11";
+-- where octets are left, what the frame reader refuses, with the frame's place
+pub data NextRefusal (f : Format) (offset number : ℕ) (s : List ℕ) : (n k at : ℕ) → Type 0 where
+  past_the_recording : length s < offset → NextRefusal f offset number s 11 0 0
+  number_above : offset < number → NextRefusal f offset number s 11 0 0
+  frame_refused : {n : ℕ} → offset < length s → number ≤ offset → read_frame f (drop offset s) ≡ refused n → NextRefusal f offset number s n number offset
+
+-- demand 2, of a viewer: of a recording it hands out exactly the list of frames, then the end; of another the frames in front of the first
+-- refused one, then its refusal. A format that is not known is 11. Otherwise "Opening it judges 11, 9 and 8"; a call for the next frame is
+-- refused on its conditions and on no other, and says the end exactly where no octet is left
 pub record ViewsRecordings (opening : Opener) (next : Stepper) : Type 0 where
-  pub valid : (f : Format) (s : List ℕ) (xs : List Frame) → Octets s → read_recording f s ≡ done xs → Hands opening next f s xs the_end
-  pub stopped : (f : Format) (s : List ℕ) (n k at : ℕ) → Octets s → n ≤ 7 → read_recording f s ≡ refused_at n k at
-      → (p : StopsAt f s n k at) → Hands opening next f s p.xs (refusal n k at)
-  pub unopened : (f : Format) (s : List ℕ) (n k at : ℕ) → 8 ≤ n → read_recording f s ≡ refused_at n k at → opening (format_number f) s ≡ refused_at n k at
+  pub valid : (f : Format) (s : List ℕ) (xs : List Frame) → Octets s → IsRecording f s xs → Hands opening next f s xs the_end
+  pub stopped : (f : Format) (s : List ℕ) (n k at : ℕ) → Octets s → length s ≤ limit → (p : StopsAt f s n k at)
+      → Hands opening next f s p.xs (refusal n k at)
   pub unknown : (format offset number : ℕ) (s : List ℕ) → format_numbered format ≡ refused 11
       → (opening format s ≡ refused_at 11 0 0) × (next format offset number s ≡ refused_at 11 0 0)
-  pub judges : (format offset number : ℕ) (s : List ℕ) → (length s < offset) ⊎ (offset < number) → next format offset number s ≡ refused_at 11 0 0
-
--- ---- what is not such a viewer
-
--- one that goes on behind a refused frame's first octet
-abbrev pub or_else : Placed View → Placed View → Placed View
-or_else (refused_at n k at) w = w
-or_else (done v) w = done v
-
-abbrev pub passes_refused : Stepper
-passes_refused format offset number s = or_else (next_call format offset number s) (next_call format (suc offset) (suc number) s)
-
--- one that shows every second frame only
-abbrev pub frame_behind : (format : ℕ) → List ℕ → View → Placed View
-frame_behind format s (shows x number offset) = next_call format offset number s
-frame_behind format s end = done end
-
-abbrev pub skips_frames : Stepper
-skips_frames format offset number s = and_then_at (next_call format offset number s) (frame_behind format s)
+  pub unopened : (f : Format) (s : List ℕ) (n k at : ℕ)
+      → (opening (format_number f) s ≡ refused_at n k at) ↔ (FrontRefusal f s n × (k ≡ 0) × (at ≡ 0))
+  pub refuses : (f : Format) (offset number : ℕ) (s : List ℕ) (n k at : ℕ)
+      → (next (format_number f) offset number s ≡ refused_at n k at) ↔ NextRefusal f offset number s n k at
+  pub ends : (f : Format) (offset number : ℕ) (s : List ℕ)
+      → (next (format_number f) offset number s ≡ done end) ↔ ((offset ≡ length s) × (number ≤ offset))

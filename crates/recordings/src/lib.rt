@@ -4,16 +4,19 @@
 
 ghost use Rattle.recordings.specs.Recordings.{read_recording};
 ghost use Rattle.recordings.specs.Conversion.{convert_call};
-ghost use Rattle.recordings.specs.Claims.{ReadsRecordings};
+ghost use Rattle.recordings.specs.Claims.{ReadsRecordings, ReadersAgree};
+ghost use Rattle.recordings.specs.WrongRecordingReaders.{WrongRecordingReaders};
 ghost use Rattle.recordings.specs.Demand3.{Demand3, first_only};
 ghost use Rattle.recordings.specs.ThreeBits.{ThreeIsSharp};
-ghost use Rattle.recordings.specs.Viewer.{open_call, next_call, ViewsRecordings, passes_refused, skips_frames};
+ghost use Rattle.recordings.specs.Viewer.{open_call, next_call, ViewsRecordings};
+ghost use Rattle.recordings.specs.WrongViewers.{passes_refused, skips_frames};
 ghost use Rattle.recordings.specs.Report.{report_call, AddsUp};
 
-// Does nothing. Its contract: octets are read as frames exactly where they are the frames' recording, and a refusal names the first
-// refused frame.
+// Does nothing. Its contract: octets are read as frames exactly where they are the frames' recording, and each refusal comes on its condition and
+// on no other, with the place of the first refused frame; readers of which this is true answer the same; and a reader that always declines, one
+// that ends at a refused frame, and one that names no place are not such readers.
 pub fn reader_claim()
-    ensures { ReadsRecordings read_recording }
+    ensures { ReadsRecordings read_recording × ReadersAgree × WrongRecordingReaders }
 {}
 
 // Does nothing. Its contract: demand 3, and that the converter which copies the first frame and counts the others does not meet it.
@@ -28,8 +31,8 @@ pub fn three_bits_claim()
 {}
 
 // Does nothing. Its contract: a viewer that is opened hands out, over any number of calls, the recording's frames and then the end for ever,
-// or the frames in front of the first refused one and then that refusal for ever; and that the viewer which goes on behind a refused frame, and
-// the one which shows every second frame, do not.
+// or the frames in front of the first refused one and then that refusal for ever; opening and the calls refuse on their conditions only; and
+// that the viewer which goes on behind a refused frame, and the one which shows every second frame, do not.
 pub fn viewer_claim()
     ensures { ViewsRecordings open_call next_call × (ViewsRecordings open_call passes_refused → ⊥) × (ViewsRecordings open_call skips_frames → ⊥) }
 {}
