@@ -3,7 +3,7 @@ use mathlib.Core.Path.{◌≡◌, refl, sym, ap, ap₂, ◌∙◌, subst}
 use mathlib.Core.Bool.{Bool, true, false}
 use mathlib.Core.Logic.{◌≢◌}
 use mathlib.Core.List.{List, [], ◌∷◌, ◌++◌, append_assoc}
-use Prim.Native.Nat.{ℕ, ◌+◌, ◌≤◌}
+use Prim.Native.Nat.{ℕ, ◌≤◌}
 use native.Mathlib.Omega.{arith}
 use lib.Dec.{eqb, leb}
 use lib.ListN.{length, take, drop, length-append, length-drop, take-append-drop}
@@ -17,8 +17,8 @@ use Rattle.definitions.specs.Outcome.{refused}
 use Rattle.definitions.specs.Frames.{Format, Frame}
 use Rattle.definitions.specs.Reading.{read_frame}
 use Rattle.recordings.specs.Placed.{Placed, refused_at, done, unless_at}
-use Rattle.recordings.specs.Recordings.{limit, file_header, same_octets, headed, scan, scan_frames, read_recording, layouts, write_recording}
-use Rattle.recordings.specs.Claims.{IsRecording, StopsAt, too_long, other_header, RecordingRefusal, in_front, stops_at, RecordingReader, ReadsRecordings, ReadersAgree}
+use Rattle.recordings.specs.Recordings.{limit, file_header, same_octets, headed, scan, scan_frames, judged_front, read_recording, layouts, write_recording}
+use Rattle.recordings.specs.Claims.{IsRecording, StopsAt, FrontRefusal, too_long, other_header, RecordingRefusal, in_front, stops_at, RecordingReader, ReadsRecordings, ReadersAgree}
 use Rattle.recordings.proofs.Scan.{not_done, layouts-scan, layouts-stop, scan-layouts, scan-stops}
 
 -- ---- the file header
@@ -42,6 +42,35 @@ pub unless-done : {A : Type 0} (n : ℕ) (b : Bool) (w : Placed A) (a : A) → u
 unless-done n true w a h = (refl, h)
 unless-done n false w a h = not_done n 0 0 a h
 
+-- ---- the tests in front of the frames
+
+headed-false : (f : Format) (s : List ℕ) → headed f s ≡ false → take (length (file_header f)) s ≢ file_header f
+headed-false f s e h = let t = octets-same _ _ h in let z : ◌≡◌ {A = ℕ} 0 1 = cc in omega arith
+
+not-headed : (f : Format) (s : List ℕ) → take (length (file_header f)) s ≢ file_header f → headed f s ≡ false
+not-headed f s h = go (headed f s) refl
+  where
+    go : (b : Bool) → headed f s ≡ b → b ≡ false
+    go false e = refl
+    go true e = absurd (h (same-octets _ _ e))
+
+pub front_refuses : {A : Type 0} (f : Format) (s : List ℕ) (next : Placed A) (n : ℕ) → FrontRefusal f s n → judged_front f s next ≡ refused_at n 0 0
+front_refuses f s next n (too_long l) = rw (lt-leb (length s) limit l)
+front_refuses f s next n (other_header l h) = rw (le-leb (length s) limit l, not-headed f s h)
+
+pub front_passes : {A : Type 0} (f : Format) (s : List ℕ) (next : Placed A) → length s ≤ limit → headed f s ≡ true → judged_front f s next ≡ next
+front_passes f s next l h = rw (le-leb (length s) limit l, h)
+
+-- what holds of each of their refusals, and of what comes next where they pass, holds of the answer
+pub front_said : {A : Type 0} (f : Format) (s : List ℕ) (next : Placed A) (P : Placed A → Type 0)
+    → ((n : ℕ) → FrontRefusal f s n → P (refused_at n 0 0)) → (length s ≤ limit → headed f s ≡ true → P next) → P (judged_front f s next)
+front_said f s next P refuses passes = go (leb (length s) limit) refl (headed f s) refl
+  where
+    go : (a : Bool) → leb (length s) limit ≡ a → (b : Bool) → headed f s ≡ b → P (unless_at 9 a (unless_at 8 b next))
+    go false ea b eb = refuses 9 (too_long (leb-false _ _ ea))
+    go true ea false eb = refuses 8 (other_header (leb-true _ _ ea) (headed-false f s eb))
+    go true ea true eb = passes (leb-true _ _ ea) eb
+
 -- ---- whole recordings
 
 pub read_recording_lem : (f : Format) (s : List ℕ) (xs : List Frame) → Octets s → read_recording f s ≡ done xs → IsRecording f s xs
@@ -64,25 +93,14 @@ recording_read f xs r =
     let s = file_header f ++ layouts f xs in
     let t : take n (file_header f ++ layouts f xs) ≡ file_header f = take_at (file_header f) (layouts f xs) n refl in
     let d : drop n (file_header f ++ layouts f xs) ≡ layouts f xs = drop_at (file_header f) (layouts f xs) n refl in
-    ap₂ (λ a b. unless_at 9 a (unless_at 8 b (scan_frames f s))) (le-leb _ _ r.within) (octets-same _ _ t)
+    front_passes f s (scan_frames f s) r.within (octets-same _ _ t)
     ∙ ap (scan f 0 0 n) d
     ∙ layouts-scan f 0 n xs r.valid
 
 pub is_read : (f : Format) (s : List ℕ) (xs : List Frame) → IsRecording f s xs → read_recording f s ≡ done xs
 is_read f s xs r = ap (read_recording f) r.laid ∙ recording_read f xs (subst (λ z. IsRecording f z xs) r.laid r)
 
--- ---- refusals
-
--- what a wrong header's test says
-pub headed-false : (f : Format) (s : List ℕ) → headed f s ≡ false → take (length (file_header f)) s ≢ file_header f
-headed-false f s e h = let t = octets-same _ _ h in let z : ◌≡◌ {A = ℕ} 0 1 = cc in omega arith
-
-pub not-headed : (f : Format) (s : List ℕ) → take (length (file_header f)) s ≢ file_header f → headed f s ≡ false
-not-headed f s h = go (headed f s) refl
-  where
-    go : (b : Bool) → headed f s ≡ b → b ≡ false
-    go false e = refl
-    go true e = absurd (h (same-octets _ _ e))
+-- ---- where a recording stops
 
 stops : (f : Format) (s : List ℕ) (n k at : ℕ) → Octets s → headed f s ≡ true → scan_frames f s ≡ refused_at n k at → StopsAt f s n k at
 unfolding write_recording
@@ -122,31 +140,28 @@ stopped : (f : Format) (s : List ℕ) (n k at : ℕ) → length s ≤ limit → 
 unfolding read_recording write_recording
 stopped f s n k at l p =
     let m = length (file_header f) in
-    ap₂ (λ a b. unless_at 9 a (unless_at 8 b (scan_frames f s))) (le-leb _ _ l) (stopped_front f s n k at p)
+    front_passes f s (scan_frames f s) l (stopped_front f s n k at p)
     ∙ ap (scan f 0 0 m) (stopped_behind f s n k at p)
     ∙ layouts-stop f 0 m p.xs (drop at s) n p.valid (omega (arith, length-drop at s, p.left)) p.refusal
     ∙ ap₂ (refused_at n) (omega (arith, p.number)) (omega (arith, p.octet, length-append (file_header f) (layouts f p.xs)))
 
--- what an answer says: the tests in front of the frames, and then the scan
+-- ---- what the reader's answer says
+
 abbrev Says : Format → List ℕ → Placed (List Frame) → Type 0
 Says f s (refused_at n k at) = RecordingRefusal f s n k at
 Says f s (done xs) = Unit {0}
 
 said : (f : Format) (s : List ℕ) → Octets s → Says f s (read_recording f s)
 unfolding read_recording
-said f s o = go (leb (length s) limit) refl (headed f s) refl (scan_frames f s) refl
+said f s o = front_said f s (scan_frames f s) (Says f s) (λ n r. in_front r) (λ l h. go l h (scan_frames f s) refl)
   where
-    go : (a : Bool) → leb (length s) limit ≡ a → (b : Bool) → headed f s ≡ b → (w : Placed (List Frame)) → scan_frames f s ≡ w
-        → Says f s (unless_at 9 a (unless_at 8 b w))
-    go false ea b eb w e = in_front (too_long (leb-false _ _ ea))
-    go true ea false eb w e = in_front (other_header (leb-true _ _ ea) (headed-false f s eb))
-    go true ea true eb (refused_at n k at) e = stops_at (leb-true _ _ ea) (stops f s n k at o eb e)
-    go true ea true eb (done xs) e = tt
+    go : length s ≤ limit → headed f s ≡ true → (w : Placed (List Frame)) → scan_frames f s ≡ w → Says f s w
+    go l h (refused_at n k at) e = stops_at l (stops f s n k at o h e)
+    go l h (done xs) e = tt
 
 refused-read : (f : Format) (s : List ℕ) (n k at : ℕ) → RecordingRefusal f s n k at → read_recording f s ≡ refused_at n k at
 unfolding read_recording
-refused-read f s n k at (in_front (too_long l)) = rw (lt-leb (length s) limit l)
-refused-read f s n k at (in_front (other_header l h)) = rw (le-leb (length s) limit l, not-headed f s h)
+refused-read f s n k at (in_front r) = front_refuses f s (scan_frames f s) n r
 refused-read f s n k at (stops_at l p) = stopped f s n k at l p
 
 pub reads_recordings : ReadsRecordings read_recording

@@ -96,7 +96,7 @@ before-done : (x : Frame) (w : Placed (List Frame)) (xs : List Frame) → before
 before-done x (refused_at n k at) xs h = not_done n k at xs h
 before-done x (done ys) xs h = (ys, refl, cc)
 
-pub before-refused : (x : Frame) (w : Placed (List Frame)) (n k at : ℕ) → before x w ≡ refused_at n k at → w ≡ refused_at n k at
+before-refused : (x : Frame) (w : Placed (List Frame)) (n k at : ℕ) → before x w ≡ refused_at n k at → w ≡ refused_at n k at
 before-refused x (refused_at n' k' at') n k at h = h
 before-refused x (done ys) n k at h = not_refused n k at (x ∷ ys) h
 

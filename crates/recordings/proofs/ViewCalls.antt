@@ -1,31 +1,22 @@
 -- The calls of a viewer: what each answers once its tests are decided, by the order of the definition. Assumes nothing.
-use mathlib.Core.Path.{◌≡◌, refl, sym, ap, ◌∙◌, subst}
+use mathlib.Core.Path.{◌≡◌, refl, sym, ◌∙◌, subst}
 use mathlib.Core.Bool.{Bool, true, false, ◌&&◌, cond}
 use mathlib.Core.Logic.{◌≢◌}
 use mathlib.Core.List.{List}
-use Prim.Native.Nat.{ℕ, zero, suc, ◌+◌, ◌<◌, ◌≤◌}
+use Prim.Native.Nat.{ℕ, suc, ◌+◌, ◌<◌, ◌≤◌}
 use native.Mathlib.Omega.{arith}
 use lib.Dec.{eqb, leb}
 use lib.ListN.{length, drop}
 use borrow.Author.Tests.{le-leb, lt-leb, eq-eqb, ne_eqb, leb-true, leb-false, eqb-true, eqb-false}
 use Rattle.std.proofs.Math.Bool.{and-false}
 use Rattle.definitions.specs.Outcome.{Outcome, refused, ok}
-use Rattle.definitions.specs.Frames.{Format, if1, if2, storage, Frame}
+use Rattle.definitions.specs.Frames.{Format, Frame}
 use Rattle.definitions.specs.Reading.{read_frame, format_numbered}
-use Rattle.definitions.proofs.Frames.{never}
 use Rattle.recordings.specs.Placed.{Placed, refused_at, done, unless_at, placed}
-use Rattle.recordings.specs.Recordings.{limit, file_header, headed}
-use Rattle.recordings.specs.Claims.{too_long, other_header, FrontRefusal}
+use Rattle.recordings.specs.Recordings.{limit, file_header, headed, judged_front}
+use Rattle.recordings.specs.Claims.{FrontRefusal}
 use Rattle.recordings.specs.Viewer.{View, shows, end, open_call, next_call, NextRefusal, past_the_recording, number_above, frame_refused}
-use Rattle.recordings.proofs.Claims.{headed-false}
-
--- a format that is not known is 11
-pub unknown-number : (format n : ℕ) → format_numbered format ≡ refused n → n ≡ 11
-unknown-number zero n e = cc
-unknown-number (suc zero) n e = never n if1 (sym e)
-unknown-number (suc (suc zero)) n e = never n if2 (sym e)
-unknown-number (suc (suc (suc zero))) n e = never n storage (sym e)
-unknown-number (suc (suc (suc (suc m)))) n e = cc
+use Rattle.recordings.proofs.Claims.{front_refuses, front_passes, front_said}
 
 -- what the answers of opening and of a call for the next frame say
 abbrev pub OpeningSays : Format → List ℕ → Placed (ℕ × ℕ) → Type 0
@@ -36,6 +27,10 @@ abbrev pub NextSays : Format → List ℕ → (k at : ℕ) → Placed View → T
 NextSays f s k at (refused_at n j p) = NextRefusal f at k s n j p
 NextSays f s k at (done end) = (at ≡ length s) × (k ≤ at)
 NextSays f s k at (done (shows x j p)) = (n : ℕ) × (at ≤ length s) × (read_frame f (drop at s) ≡ ok (x, n))
+
+-- where a viewer starts
+abbrev start : Format → Placed (ℕ × ℕ)
+start f = done (0, length (file_header f))
 
 module _ (format : ℕ) (s : List ℕ) where
   pub open_unknown : format_numbered format ≡ refused 11 → open_call format s ≡ refused_at 11 0 0
@@ -48,17 +43,15 @@ module _ (format : ℕ) (s : List ℕ) where
 
   -- once the format is known
   module _ (f : Format) (found : format_numbered format ≡ ok f) where
-    pub open_too_long : limit < length s → open_call format s ≡ refused_at 9 0 0
+    open_is : open_call format s ≡ judged_front f s (start f)
     unfolding open_call
-    open_too_long h = rw (found, lt-leb (length s) limit h)
+    open_is = rw found
 
-    pub open_not_headed : length s ≤ limit → headed f s ≡ false → open_call format s ≡ refused_at 8 0 0
-    unfolding open_call
-    open_not_headed h e = rw (found, le-leb (length s) limit h, e)
+    pub open_refused : (n : ℕ) → FrontRefusal f s n → open_call format s ≡ refused_at n 0 0
+    open_refused n r = open_is ∙ front_refuses f s (start f) n r
 
-    pub open_first : (n : ℕ) → length s ≤ limit → headed f s ≡ true → n ≡ length (file_header f) → open_call format s ≡ done (0, n)
-    unfolding open_call
-    open_first n h e en = rw (found, le-leb (length s) limit h, e, en)
+    pub open_first : length s ≤ limit → headed f s ≡ true → open_call format s ≡ done (0, length (file_header f))
+    open_first l h = open_is ∙ front_passes f s (start f) l h
 
     pub next_past : (k at : ℕ) → length s < at → next_call format at k s ≡ refused_at 11 0 0
     unfolding next_call
@@ -79,19 +72,7 @@ module _ (format : ℕ) (s : List ℕ) where
 
     -- what the answer of each call says
     pub open_said : OpeningSays f s (open_call format s)
-    unfolding open_call
-    open_said = subst (OpeningSays f s) (sym is) (go (leb (length s) limit) refl (headed f s) refl)
-      where
-        after : Bool → Bool → Placed (ℕ × ℕ)
-        after a b = unless_at 9 a (unless_at 8 b (done (0, length (file_header f))))
-
-        is : open_call format s ≡ after (leb (length s) limit) (headed f s)
-        is = rw found
-
-        go : (a : Bool) → leb (length s) limit ≡ a → (b : Bool) → headed f s ≡ b → OpeningSays f s (after a b)
-        go false ea b eb = (too_long (leb-false _ _ ea), refl, refl)
-        go true ea false eb = (other_header (leb-true _ _ ea) (headed-false f s eb), refl, refl)
-        go true ea true eb = tt
+    open_said = subst (OpeningSays f s) (sym open_is) (front_said f s (start f) (OpeningSays f s) (λ n r. (r, refl, refl)) (λ l h. tt))
 
     pub next_said : (k at : ℕ) → NextSays f s k at (next_call format at k s)
     unfolding next_call

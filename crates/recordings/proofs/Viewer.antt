@@ -1,30 +1,26 @@
 -- A viewer goes through the frames as they are laid out, one a call, and then stays where it is: by induction over the frames and the
 -- calls. Assumes nothing.
 use mathlib.Core.Path.{◌≡◌, refl, sym, ap, ap₂, ◌∙◌, subst}
-use mathlib.Core.Bool.{Bool, true, false}
-use mathlib.Core.Logic.{◌⊎◌, ⊎_elim}
+use mathlib.Core.Bool.{false}
 use mathlib.Core.List.{List, [], ◌∷◌, ◌++◌, map, append-nil, append_assoc}
-use Prim.Native.Nat.{ℕ, zero, suc, ◌+◌, ◌-◌, ◌≤◌, ◌<◌}
+use Prim.Native.Nat.{ℕ, zero, suc, ◌+◌, ◌≤◌}
 use native.Mathlib.Omega.{arith}
-use lib.Dec.{leb}
-use lib.ListN.{length, take, drop, replicate, length-replicate, length-append, take-append-drop}
+use lib.ListN.{length, take, drop, replicate, length-replicate, length-append}
 use lib.Seq.{take_at, drop_at, drop-drop, drop-length, take_all}
-use borrow.Author.Tests.{leb-true, leb-false}
-use Rattle.bits.specs.Bits.{Octets, bits}
-use Rattle.definitions.specs.Outcome.{Outcome, refused, ok, unless}
-use Rattle.definitions.specs.Frames.{Format, Frame, layout, octets, known, type_in, frame_in, spare_clear, fields_good, crc_good}
-use Rattle.definitions.specs.Reading.{read_with, read_frame, format_numbered}
+use Rattle.definitions.specs.Outcome.{refused, ok}
+use Rattle.definitions.specs.Frames.{Format, Frame, layout, octets}
+use Rattle.definitions.specs.Reading.{read_frame}
 use Rattle.definitions.specs.Claims.{Valid}
 use Rattle.definitions.proofs.Tables.{sized}
-use Rattle.definitions.proofs.Frames.{never, length-layout, read-layout}
-use Rattle.recordings.specs.Placed.{Placed, refused_at, done, unless_at, placed}
-use Rattle.recordings.specs.Recordings.{limit, file_header, headed, before, scan, scan_frames, read_recording, layouts, write_recording}
-use Rattle.recordings.specs.Claims.{Every, none, first, IsRecording, StopsAt, too_long, other_header, FrontRefusal}
+use Rattle.definitions.proofs.Frames.{length-layout, read-layout}
+use Rattle.recordings.specs.Placed.{Placed, refused_at, done}
+use Rattle.recordings.specs.Recordings.{limit, file_header, layouts, write_recording}
+use Rattle.recordings.specs.Claims.{Every, none, first, IsRecording, StopsAt}
 use Rattle.recordings.specs.Demand3.{format_number}
 use Rattle.recordings.specs.Viewer.{View, shows, open_call, next_call, Handed, frame, the_end, refusal, handed, moved, in_turn, Hands, NextRefusal, past_the_recording, number_above, frame_refused, ViewsRecordings}
-use Rattle.recordings.proofs.Claims.{octets-same, not-headed, stopped_front, stopped_behind}
+use Rattle.recordings.proofs.Claims.{octets-same, stopped_front, stopped_behind}
 use Rattle.recordings.proofs.Trips.{format_numbered_lem}
-use Rattle.recordings.proofs.ViewCalls.{OpeningSays, NextSays, open_unknown, open_too_long, open_not_headed, open_first, open_said, next_unknown, next_past, next_above, next_end, next_frame, next_said}
+use Rattle.recordings.proofs.ViewCalls.{OpeningSays, NextSays, open_unknown, open_refused, open_first, open_said, next_unknown, next_past, next_above, next_end, next_frame, next_said}
 
 -- ---- lists that end in one element again and again
 
@@ -90,7 +86,7 @@ valid f s xs r =
     let w = next_end (format_number f) s f (format_numbered_lem f) (length xs) (length s) refl (omega (arith, few f xs r.valid, size)) in
     record {
       place = (0, n);
-      opens = open_first (format_number f) s f (format_numbered_lem f) _ r.within (octets-same _ _ t) refl;
+      opens = open_first (format_number f) s f (format_numbered_lem f) r.within (octets-same _ _ t);
       hands = goes f s the_end (length xs) (length s) (omega arith) (ap handed w) (ap (λ w. moved w (length xs, length s)) w) xs 0 n r.valid d (omega arith) size (omega arith);
     }
 
@@ -104,15 +100,11 @@ stopped f s n k at l p =
     let w = next_frame (format_number f) s f (format_numbered_lem f) k at (refused n) p.left (omega (arith, few f p.xs p.valid, size, p.octet, p.number)) p.refusal in
     record {
       place = (0, m);
-      opens = open_first (format_number f) s f (format_numbered_lem f) _ l (stopped_front f s n k at p) refl;
+      opens = open_first (format_number f) s f (format_numbered_lem f) l (stopped_front f s n k at p);
       hands = goes f s (refusal n k at) k at (omega (arith, p.left)) (ap handed w) (ap (λ w. moved w (k, at)) w) p.xs 0 m p.valid (stopped_behind f s n k at p) (omega (arith, p.number)) (omega (arith, size, p.octet)) (omega arith);
     }
 
 -- ---- what is refused
-
-opening-refused : (f : Format) (s : List ℕ) (n : ℕ) → FrontRefusal f s n → open_call (format_number f) s ≡ refused_at n 0 0
-opening-refused f s n (too_long l) = open_too_long (format_number f) s f (format_numbered_lem f) l
-opening-refused f s n (other_header l h) = open_not_headed (format_number f) s f (format_numbered_lem f) l (not-headed f s h)
 
 next-refused : (f : Format) (offset number : ℕ) (s : List ℕ) (n k at : ℕ) → NextRefusal f offset number s n k at
     → next_call (format_number f) offset number s ≡ refused_at n k at
@@ -125,10 +117,16 @@ views_recordings = record {
   valid = λ f s xs o. valid f s xs;
   stopped = λ f s n k at o. stopped f s n k at;
   unknown = λ format offset number s e. (open_unknown format s e, next_unknown format s number offset e);
-  unopened = λ f s n k at. (λ h. subst (OpeningSays f s) h (open_said (format_number f) s f (format_numbered_lem f)),
-      λ r. opening-refused f s n r.0 ∙ ap₂ (refused_at n) (sym r.1) (sym r.2));
-  refuses = λ f offset number s n k at. (λ h. subst (NextSays f s number offset) h (next_said (format_number f) s f (format_numbered_lem f) number offset),
-      next-refused f offset number s n k at);
-  ends = λ f offset number s. (λ h. subst (NextSays f s number offset) h (next_said (format_number f) s f (format_numbered_lem f) number offset),
-      λ e. next_end (format_number f) s f (format_numbered_lem f) number offset e.0 e.1);
+  unopened = λ f s n k at. (
+    λ h. subst (OpeningSays f s) h (open_said (format_number f) s f (format_numbered_lem f)),
+    λ r. open_refused (format_number f) s f (format_numbered_lem f) n r.0 ∙ ap₂ (refused_at n) (sym r.1) (sym r.2),
+  );
+  refuses = λ f offset number s n k at. (
+    λ h. subst (NextSays f s number offset) h (next_said (format_number f) s f (format_numbered_lem f) number offset),
+    next-refused f offset number s n k at,
+  );
+  ends = λ f offset number s. (
+    λ h. subst (NextSays f s number offset) h (next_said (format_number f) s f (format_numbered_lem f) number offset),
+    λ e. next_end (format_number f) s f (format_numbered_lem f) number offset e.0 e.1,
+  );
 }

@@ -2,7 +2,7 @@
 -- frame without data with a reserved type behind it, which is refused by 2 at frame 1 and octet 1. Assumes nothing.
 use mathlib.Core.Path.{◌≡◌, refl, sym, ◌∙◌}
 use mathlib.Core.List.{List, [], ◌∷◌}
-use Prim.Native.Nat.{ℕ, zero, suc}
+use Prim.Native.Nat.{ℕ}
 use native.Mathlib.Omega.{arith}
 use Rattle.bits.specs.Bits.{Octets, odd, digits, num, bits, packs, pack}
 use Rattle.definitions.specs.Frames.{Format, if2, Frame, known, core_bits, octets, frame_in, spare_clear, fields_good, crc_good}

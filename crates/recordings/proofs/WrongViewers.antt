@@ -4,7 +4,7 @@ use mathlib.Core.Path.{◌≡◌, refl, sym, ap, ◌∙◌}
 use mathlib.Core.List.{List, [], ◌∷◌, ◌++◌, map}
 use Prim.Native.Nat.{ℕ}
 use native.Mathlib.Omega.{arith}
-use lib.ListN.{length, take, replicate}
+use lib.ListN.{take, replicate}
 use Rattle.bits.specs.Bits.{Octets, odd, digits, num, bits, packs, pack}
 use Rattle.definitions.specs.Frames.{if2, Frame, known, core_bits, octets, frame_in, spare_clear, fields_good, crc_good}
 use Rattle.definitions.specs.Reading.{read_with}
