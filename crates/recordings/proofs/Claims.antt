@@ -73,18 +73,12 @@ front_said f s next P refuses passes = go (leb (length s) limit) refl (headed f 
 
 -- ---- whole recordings
 
-pub read_recording_lem : (f : Format) (s : List ℕ) (xs : List Frame) → Octets s → read_recording f s ≡ done xs → IsRecording f s xs
-unfolding read_recording write_recording
-read_recording_lem f s xs o h =
+shown : (f : Format) (s : List ℕ) (xs : List Frame) → Octets s → length s ≤ limit → headed f s ≡ true → scan_frames f s ≡ done xs → IsRecording f s xs
+unfolding write_recording
+shown f s xs o l h e =
     let n = length (file_header f) in
-    let a = unless-done 9 (leb (length s) limit) (unless_at 8 (headed f s) (scan_frames f s)) xs h in
-    let b = unless-done 8 (headed f s) (scan_frames f s) xs a.1 in
-    let c = scan-layouts f 0 0 n (drop n s) xs (octets-drop n s o) b.1 in
-    record {
-      valid = c.valid;
-      laid = sym (ap₂ ◌++◌ (sym (same-octets (take n s) (file_header f) b.0)) c.laid ∙ take-append-drop n s);
-      within = leb-true _ _ a.0;
-    }
+    let c = scan-layouts f 0 0 n (drop n s) xs (octets-drop n s o) e in
+    record { valid = c.valid; laid = sym (ap₂ ◌++◌ (sym (same-octets (take n s) (file_header f) h)) c.laid ∙ take-append-drop n s); within = l }
 
 recording_read : (f : Format) (xs : List Frame) → IsRecording f (write_recording f xs) xs → read_recording f (write_recording f xs) ≡ done xs
 unfolding read_recording write_recording
@@ -97,7 +91,7 @@ recording_read f xs r =
     ∙ ap (scan f 0 0 n) d
     ∙ layouts-scan f 0 n xs r.valid
 
-pub is_read : (f : Format) (s : List ℕ) (xs : List Frame) → IsRecording f s xs → read_recording f s ≡ done xs
+is_read : (f : Format) (s : List ℕ) (xs : List Frame) → IsRecording f s xs → read_recording f s ≡ done xs
 is_read f s xs r = ap (read_recording f) r.laid ∙ recording_read f xs (subst (λ z. IsRecording f z xs) r.laid r)
 
 -- ---- where a recording stops
@@ -122,8 +116,8 @@ stops f s n k at o b h =
       refusal = subst (λ r. read_frame f r ≡ refused n) (sym (ap (drop at) (sym e) ∙ drop_at w c.rest at p)) c.refusal;
     }
 
--- the octets behind the header, and that the header is right, where a recording stops
-pub stopped_octets : (f : Format) (s : List ℕ) (n k at : ℕ) (p : StopsAt f s n k at) → s ≡ file_header f ++ (layouts f p.xs ++ drop at s)
+-- its octets there, that its header is right, and what stands behind the header
+stopped_octets : (f : Format) (s : List ℕ) (n k at : ℕ) (p : StopsAt f s n k at) → s ≡ file_header f ++ (layouts f p.xs ++ drop at s)
 unfolding write_recording
 stopped_octets f s n k at p =
     sym (take-append-drop at s) ∙ ap (λ l. l ++ drop at s) p.laid ∙ append_assoc (file_header f) (layouts f p.xs) (drop at s)
@@ -145,11 +139,11 @@ stopped f s n k at l p =
     ∙ layouts-stop f 0 m p.xs (drop at s) n p.valid (omega (arith, length-drop at s, p.left)) p.refusal
     ∙ ap₂ (refused_at n) (omega (arith, p.number)) (omega (arith, p.octet, length-append (file_header f) (layouts f p.xs)))
 
--- ---- what the reader's answer says
+-- ---- what the reader's answer says, whatever it is
 
 abbrev Says : Format → List ℕ → Placed (List Frame) → Type 0
 Says f s (refused_at n k at) = RecordingRefusal f s n k at
-Says f s (done xs) = Unit {0}
+Says f s (done xs) = IsRecording f s xs
 
 said : (f : Format) (s : List ℕ) → Octets s → Says f s (read_recording f s)
 unfolding read_recording
@@ -157,7 +151,7 @@ said f s o = front_said f s (scan_frames f s) (Says f s) (λ n r. in_front r) (�
   where
     go : length s ≤ limit → headed f s ≡ true → (w : Placed (List Frame)) → scan_frames f s ≡ w → Says f s w
     go l h (refused_at n k at) e = stops_at l (stops f s n k at o h e)
-    go l h (done xs) e = tt
+    go l h (done xs) e = shown f s xs o l h e
 
 refused-read : (f : Format) (s : List ℕ) (n k at : ℕ) → RecordingRefusal f s n k at → read_recording f s ≡ refused_at n k at
 unfolding read_recording
@@ -166,7 +160,7 @@ refused-read f s n k at (stops_at l p) = stopped f s n k at l p
 
 pub reads_recordings : ReadsRecordings read_recording
 reads_recordings = record {
-  exactly = λ f s xs o. (read_recording_lem f s xs o, is_read f s xs);
+  exactly = λ f s xs o. (λ h. subst (Says f s) h (said f s o), is_read f s xs);
   unique = λ f s xs ys o r q. (let e : done xs ≡ done ys = sym (is_read f s xs r) ∙ is_read f s ys q in cc);
   refuses = λ f s n k at o. (λ h. subst (Says f s) h (said f s o), refused-read f s n k at);
 }
