@@ -36,7 +36,7 @@ octets-same a b e = subst (λ c. same_octets a c ≡ true) e (reflexive a)
     reflexive [] = refl
     reflexive (x ∷ l) = and_from _ _ (eq-eqb x x refl) (reflexive l)
 
--- ---- a chain of two tests
+-- ---- a test that a value passes
 
 pub unless-done : {A : Type 0} (n : ℕ) (b : Bool) (w : Placed A) (a : A) → unless_at n b w ≡ done a → (b ≡ true) × (w ≡ done a)
 unless-done n true w a h = (refl, h)

@@ -72,7 +72,8 @@ layouts_front f k at [] rest none = ap₂ (λ i p. scan f 0 i p rest) (omega ari
 layouts_front f k at (x ∷ xs) rest (first v vs) =
     let n = octets f x.type in
     ap (scan f 0 k at) (append_assoc (layout f x) (layouts f xs) rest)
-    ∙ scan_step f k at (layout f x ++ (layouts f xs ++ rest)) x n (read-layout false f x (layouts f xs ++ rest) v refl) (sized f x.type v.type_known).some-octet
+    ∙ scan_step f k at (layout f x ++ (layouts f xs ++ rest)) x n
+    (read-layout false f x (layouts f xs ++ rest) v refl) (sized f x.type v.type_known).some-octet
     ∙ ap (λ l. before x (scan f 0 (suc k) (at + n) l)) (drop_at (layout f x) (layouts f xs ++ rest) _ (length-layout f x v))
     ∙ ap (before x)
     (layouts_front f (suc k) (at + n) xs rest vs
@@ -83,8 +84,8 @@ pub layouts-scan : (f : Format) (k at : ℕ) (xs : List Frame) → Every (Valid 
 layouts-scan f k at xs v = ap (scan f 0 k at) (sym (append-nil (layouts f xs))) ∙ layouts_front f k at xs [] v ∙ all-before-done xs
 
 -- where valid frames come first and the frame reader refuses what is left
-pub layouts-stop : (f : Format) (k at : ℕ) (xs : List Frame) (rest : List ℕ) (n : ℕ) → Every (Valid f) xs → 1 ≤ length rest → read_frame f rest ≡ refused n
-    → scan f 0 k at (layouts f xs ++ rest) ≡ refused_at n (k + length xs) (at + length (layouts f xs))
+pub layouts-stop : (f : Format) (k at : ℕ) (xs : List Frame) (rest : List ℕ) (n : ℕ) → Every (Valid f) xs → 1 ≤ length rest
+    → read_frame f rest ≡ refused n → scan f 0 k at (layouts f xs ++ rest) ≡ refused_at n (k + length xs) (at + length (layouts f xs))
 layouts-stop f k at xs rest n v l h =
     let j = k + length xs in
     let p = at + length (layouts f xs) in

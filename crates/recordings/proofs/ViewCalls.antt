@@ -96,5 +96,6 @@ module _ (format : ℕ) (s : List ℕ) where
         go true ea true eb false ec (ok y) e = (y.1, leb-true _ _ ea, e)
 
     -- a frame that is shown was read at the place
-    pub next_shown : (k at : ℕ) (x : Frame) (j p : ℕ) → next_call format at k s ≡ done (shows x j p) → (n : ℕ) × (at ≤ length s) × (read_frame f (drop at s) ≡ ok (x, n))
+    pub next_shown : (k at : ℕ) (x : Frame) (j p : ℕ) → next_call format at k s ≡ done (shows x j p)
+        → (n : ℕ) × (at ≤ length s) × (read_frame f (drop at s) ≡ ok (x, n))
     next_shown k at x j p h = subst (NextSays f s k at) h (next_said k at)

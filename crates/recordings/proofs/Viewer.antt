@@ -82,12 +82,14 @@ valid f s xs r =
     let t : take n s ≡ file_header f = ap (take n) r.laid ∙ take_at (file_header f) (layouts f xs) n refl in
     let size : n + length (layouts f xs) ≡ length s = sym (length-append (file_header f) (layouts f xs)) ∙ sym (ap length r.laid) in
     let d : drop n s ≡ layouts f xs ++ drop (length s) s =
-    ap (drop n) r.laid ∙ drop_at (file_header f) (layouts f xs) n refl ∙ sym (append-nil (layouts f xs)) ∙ ap (λ l. layouts f xs ++ l) (sym (drop-length s)) in
+    ap (drop n) r.laid ∙ drop_at (file_header f) (layouts f xs) n refl
+    ∙ sym (append-nil (layouts f xs)) ∙ ap (λ l. layouts f xs ++ l) (sym (drop-length s)) in
     let w = next_end (format_number f) s f (format_numbered_lem f) (length xs) (length s) refl (omega (arith, few f xs r.valid, size)) in
     record {
       place = (0, n);
       opens = open_first (format_number f) s f (format_numbered_lem f) r.within (octets-same _ _ t);
-      hands = goes f s the_end (length xs) (length s) (omega arith) (ap handed w) (ap (λ w. moved w (length xs, length s)) w) xs 0 n r.valid d (omega arith) size (omega arith);
+      hands = goes f s the_end (length xs) (length s) (omega arith) (ap handed w) (ap (λ w. moved w (length xs, length s)) w)
+          xs 0 n r.valid d (omega arith) size (omega arith);
     }
 
 -- ---- a recording that stops
@@ -97,11 +99,13 @@ unfolding write_recording
 stopped f s n k at l p =
     let m = length (file_header f) in
     let size = length-append (file_header f) (layouts f p.xs) in
-    let w = next_frame (format_number f) s f (format_numbered_lem f) k at (refused n) p.left (omega (arith, few f p.xs p.valid, size, p.octet, p.number)) p.refusal in
+    let below : k ≤ at = omega (arith, few f p.xs p.valid, size, p.octet, p.number) in
+    let w = next_frame (format_number f) s f (format_numbered_lem f) k at (refused n) p.left below p.refusal in
     record {
       place = (0, m);
       opens = open_first (format_number f) s f (format_numbered_lem f) l (stopped_front f s n k at p);
-      hands = goes f s (refusal n k at) k at (omega (arith, p.left)) (ap handed w) (ap (λ w. moved w (k, at)) w) p.xs 0 m p.valid (stopped_behind f s n k at p) (omega (arith, p.number)) (omega (arith, size, p.octet)) (omega arith);
+      hands = goes f s (refusal n k at) k at (omega (arith, p.left)) (ap handed w) (ap (λ w. moved w (k, at)) w)
+          p.xs 0 m p.valid (stopped_behind f s n k at p) (omega (arith, p.number)) (omega (arith, size, p.octet)) (omega arith);
     }
 
 -- ---- what is refused

@@ -80,5 +80,6 @@ two_skipped = refl
 pub skips_frames_lem : ViewsRecordings open_call skips_frames → ⊥
 skips_frames_lem v =
     let e : frame no_data_frame ∷ the_end ∷ [] ≡ frame no_data_frame ∷ frame no_data_frame ∷ [] =
-    sym two_skipped ∙ starts skips_frames two (no_data_frame ∷ no_data_frame ∷ []) the_end two_opens (v.valid if2 two (no_data_frame ∷ no_data_frame ∷ []) two_octets two_is) 2 in
+    sym two_skipped
+    ∙ starts skips_frames two (no_data_frame ∷ no_data_frame ∷ []) the_end two_opens (v.valid if2 two (no_data_frame ∷ no_data_frame ∷ []) two_octets two_is) 2 in
     let z : ◌≡◌ {A = ℕ} 0 1 = cc in omega arith

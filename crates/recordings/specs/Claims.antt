@@ -51,4 +51,5 @@ pub record ReadsRecordings (read : RecordingReader) : Type 0 where
 
 -- nothing is left open: any two such readers answer the same
 pub record ReadersAgree : Type 0 where
-  pub same : (read other : RecordingReader) → ReadsRecordings read → ReadsRecordings other → (f : Format) (s : List ℕ) → Octets s → read f s ≡ other f s
+  pub same : (read other : RecordingReader) → ReadsRecordings read → ReadsRecordings other
+      → (f : Format) (s : List ℕ) → Octets s → read f s ≡ other f s

@@ -83,7 +83,8 @@ pub record Hands (opening : Opener) (next : Stepper) (f : Format) (s : List ℕ)
 pub data NextRefusal (f : Format) (offset number : ℕ) (s : List ℕ) : (n k at : ℕ) → Type 0 where
   past_the_recording : length s < offset → NextRefusal f offset number s 11 0 0
   number_above : offset < number → NextRefusal f offset number s 11 0 0
-  frame_refused : {n : ℕ} → offset < length s → number ≤ offset → read_frame f (drop offset s) ≡ refused n → NextRefusal f offset number s n number offset
+  frame_refused : {n : ℕ} → offset < length s → number ≤ offset → read_frame f (drop offset s) ≡ refused n
+      → NextRefusal f offset number s n number offset
 
 -- demand 2, of a viewer: of a recording it hands out exactly the list of frames, then the end; of another the frames in front of the first
 -- refused one, then its refusal. A format that is not known is 11. Otherwise "Opening it judges 11, 9 and 8"; a call for the next frame is
