@@ -55,11 +55,11 @@ not-headed f s h = go (headed f s) refl
     go true e = absurd (h (same-octets _ _ e))
 
 pub front_refuses : {A : Type 0} (f : Format) (s : List ℕ) (next : Placed A) (n : ℕ) → FrontRefusal f s n → judged_front f s next ≡ refused_at n 0 0
-front_refuses f s next n (too_long l) = rw (lt-leb (length s) limit l)
-front_refuses f s next n (other_header l h) = rw (le-leb (length s) limit l, not-headed f s h)
+front_refuses f s next n (too_long l) = ap (λ a. unless_at 9 a (unless_at 8 (headed f s) next)) (lt-leb (length s) limit l)
+front_refuses f s next n (other_header l h) = ap₂ (λ a b. unless_at 9 a (unless_at 8 b next)) (le-leb (length s) limit l) (not-headed f s h)
 
 pub front_passes : {A : Type 0} (f : Format) (s : List ℕ) (next : Placed A) → length s ≤ limit → headed f s ≡ true → judged_front f s next ≡ next
-front_passes f s next l h = rw (le-leb (length s) limit l, h)
+front_passes f s next l h = ap₂ (λ a b. unless_at 9 a (unless_at 8 b next)) (le-leb (length s) limit l) h
 
 -- what holds of each of their refusals, and of what comes next where they pass, holds of the answer
 pub front_said : {A : Type 0} (f : Format) (s : List ℕ) (next : Placed A) (P : Placed A → Type 0)

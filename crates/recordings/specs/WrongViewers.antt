@@ -1,4 +1,4 @@
--- What is not a viewer.
+-- What is not a viewer: it shows other frames than the recording has, or goes on where the recording stops.
 use Rattle.std.specs.Prelude.{List, ℕ, suc}
 use Rattle.recordings.specs.Placed.{Placed, refused_at, done, and_then_at}
 use Rattle.recordings.specs.Viewer.{View, shows, end, next_call, Stepper}
