@@ -1,22 +1,22 @@
 -- Demand 2 for one frame, from the two directions of `Frames`: `read-begins` and `begins-read`. Assumes nothing.
-use mathlib.Core.Path.{◌≡◌, refl, sym, ap, ap₂, ◌∙◌}
+use mathlib.Core.Path.{◌≡◌, refl, sym, ap, ap₂, ◌∙◌, subst}
 use mathlib.Core.Bool.{Bool, true, false, not, ◌&&◌, ◌||◌}
 use mathlib.Core.List.{List, [], ◌++◌, append-nil}
 use Prim.Native.Nat.{ℕ, ◌-◌, ◌*◌, ◌≤◌}
-use native.Mathlib.Nat.{le_refl}
 use native.Mathlib.Omega.{arith}
 use lib.Dec.{eqb, leb}
 use lib.ListN.{length, take, drop, replicate, length-drop, take-append-drop}
-use lib.Seq.{take_at, drop_at, take_all, take-nil, length-take-le}
+use lib.Seq.{take_at, drop_at, take_all, length-take-le}
 use borrow.Author.Tests.{leb-true, le-leb, eqb-true, eq-eqb}
 use Rattle.bits.specs.Bits.{num, clear, bits, pack, octets_for, Octets}
-use Rattle.bits.proofs.BitLaws.{num-clear, num-zero, length-bits, bits_pack, length-pack, pack_octets, pack-unique}
+use Rattle.bits.proofs.BitLaws.{num-clear, num-zero, length-bits, bits_pack, length-pack, pack-unique}
 use Rattle.bits.proofs.Tests.{and_left, and_right, given}
 use Rattle.definitions.specs.Outcome.{Outcome, refused, ok, unless, and_then}
-use Rattle.definitions.specs.Frames.{Format, if2, Frame, known, core_bits, octets, core_octets, header, layout, fields_good}
-use Rattle.definitions.specs.Reading.{read_with, read_frame, core_fill_clear, frame_of, build_check, build_frame}
-use Rattle.definitions.specs.Claims.{Valid, Begins, ReadsFrames, ReadsOneFrame, WrongReaders, LayoutsDiffer, BuildsFrames}
-use Rattle.definitions.proofs.Tables.{known-below, sized}
+use Rattle.definitions.specs.Frames.{Format, Frame, known, core_bits, octets, core_octets, layout, fields_good}
+use Rattle.definitions.specs.Reading.{read_with, read_frame, format_numbered, into_buffer, read_call, core_fill_clear, frame_of, build_check, build_frame}
+use Rattle.definitions.specs.Claims.{Valid, Begins, ReadsFrames, ReadsOneFrame, ReadsCalls, LayoutsDiffer, BuildsFrames}
+use Rattle.definitions.proofs.Outcome.{and_then-ok, unless-ok}
+use Rattle.definitions.proofs.Tables.{known-below}
 use Rattle.definitions.proofs.Frames.{frame_path, length-layout, never, read-begins, begins-read}
 
 pub reads_frames : ReadsFrames read_frame
@@ -41,33 +41,31 @@ reads_one_frame = record {
   );
 }
 
--- a frame that every format holds: type 15, quality 1, no core
-empty : Frame
-empty = record { type = 15; quality = 1; indication = 0; request = 0; core = [] }
-
-empty-valid : Valid if2 empty
-unfolding empty known core_bits fields_good
-empty-valid = record { type_known = refl; quality_bit = le_refl 1; core_length = refl; fields_are_good = refl }
-
-octets-layout : (f : Format) (x : Frame) → Octets (layout f x)
-unfolding layout
-octets-layout f x = pack_octets (header f x ++ x.core)
-
-pub wrong_readers : WrongReaders
-wrong_readers = record {
-  declines = λ read none claim.
-      let w = layout if2 empty in
-      let b : Begins if2 w empty (length w) = record { valid = empty-valid; size = refl; laid = take_all (length w) w (le_refl (length w)) } in
-      none if2 w (empty, length w) ((claim.exactly if2 w empty (length w) (octets-layout if2 empty)).1 b);
-  shows_one = λ read x n shows claim.
-      let b = (claim.exactly if2 [] x n (λ i. omega arith)).0 (shows if2 []) in
-      let v = b.valid in
-      let l : length (layout if2 x) ≡ 0 = ap length (sym b.laid ∙ take-nil n) in
-      omega (arith, length-layout if2 x v, (sized if2 x.type v.type_known).some-octet);
+pub reads_calls : ReadsCalls read_call
+unfolding read_call
+reads_calls = record {
+  exactly = λ format s room x k o. (
+    (λ h.
+        let g = and_then-ok (format_numbered format) (λ f. and_then (read_with true f s) (λ y. into_buffer y.0 room)) (x, k) h in
+        let y = and_then-ok (read_with true g.0 s) (λ y. into_buffer y.0 room) (x, k) g.2 in
+        let b = unless-ok 10 (leb (core_octets y.0.0.type) room) (ok (y.0.0, core_octets y.0.0.type)) (x, k) y.2 in
+        let e : ◌≡◌ {A = Frame × ℕ} (y.0.0, core_octets y.0.0.type) (x, k) = cc in
+        let same : y.0.0 ≡ x = ap (λ (p : Frame × ℕ). p.0) e in
+        let r = (reads_one_frame.exactly g.0 s y.0.0 y.0.1 o).0 y.1 in
+        let size : core_octets y.0.0.type ≡ k = ap (λ (p : Frame × ℕ). p.1) e in
+        let z = subst (λ z. Valid g.0 z × (s ≡ layout g.0 z) × (core_octets z.type ≤ room) × (core_octets z.type ≡ k)) same (r.0, r.1, leb-true _ _ b.0, size) in
+        (g.0, g.1, z.0, z.1, z.2, z.3)),
+    (λ p.
+        let r = (reads_one_frame.exactly p.0 s x (length s) o).1 (p.2, p.3, refl) in
+        ap (λ f. and_then f (λ f. and_then (read_with true f s) (λ y. into_buffer y.0 room))) p.1
+        ∙ ap (λ y. and_then y (λ y. into_buffer y.0 room)) r
+        ∙ ap (λ b. unless 10 b (ok (x, core_octets x.type))) (le-leb _ _ p.4)
+        ∙ ap (λ k. ok (x, k)) p.5),
+  );
 }
 
 -- one list begins with both layouts, so the reader shows both frames
-pub layouts-differ : LayoutsDiffer
+pub layouts-differ : LayoutsDiffer layout
 layouts-differ = record {
   prefix_free = prefix;
   injective = λ f x y v w e. (prefix f x y [] [] v w (λ i. omega arith) (λ i. omega arith) (ap (λ l. l ++ []) e)).0;
@@ -166,7 +164,7 @@ build-sound f t q i r c room w o h =
       k.1,
     )
 
-frame_again : (f : Format) (x : Frame) → Valid f x → frame_of x.type x.quality x.indication x.request (pack x.core) ≡ x
+pub frame_again : (f : Format) (x : Frame) → Valid f x → frame_of x.type x.quality x.indication x.request (pack x.core) ≡ x
 frame_again f x v =
     frame_path _ _ refl refl refl refl (ap (λ k. take k (bits (pack x.core))) (sym v.core_length) ∙ (bits-core x.core).0)
 

@@ -1,7 +1,13 @@
+mod Outcome
 pub mod Tables
 pub mod Frames
 pub mod Claims
+pub mod Refusals
+pub mod OrderRefusals
+pub mod WrongReaders
+pub mod WrongBuilders
 pub mod Order
+pub mod WrongOrders
 mod Classes
 mod Cases
 mod WrongAnswerers

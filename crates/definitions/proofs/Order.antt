@@ -57,7 +57,7 @@ occurs (t ∷ table) zero l = let e : one_if (eqb t t) ≡ 1 = ap one_if (eq-eqb
 occurs (t ∷ table) (suc j) l = omega (arith, occurs table j (omega arith))
 
 -- and there alone
-place-only : (table : List ℕ) (j : ℕ) → j < length table → times (get_or table j 0) table ≤ 1 → place_of (get_or table j 0) table ≡ j
+pub place-only : (table : List ℕ) (j : ℕ) → j < length table → times (get_or table j 0) table ≤ 1 → place_of (get_or table j 0) table ≡ j
 place-only [] j l h = absurd (omega arith)
 place-only (t ∷ table) zero l h = ap (λ b. cond b 0 (suc (place_of t table))) (eq-eqb t t refl)
 place-only (t ∷ table) (suc j) l h = go (eqb (get_or table j 0) t) h (λ r. place-only table j (omega arith) r)

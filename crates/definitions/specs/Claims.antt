@@ -3,7 +3,7 @@ use Rattle.std.specs.Prelude.{◌≡◌, true, ◌↔◌, List, [], ◌∷◌, �
 use Rattle.bits.specs.Bits.{one_if, Octets, pack}
 use Rattle.definitions.specs.Outcome.{Outcome, ok}
 use Rattle.definitions.specs.Frames.{Format, Frame, known, core_bits, core_octets, fields_good, layout}
-use Rattle.definitions.specs.Reading.{core_fill_clear, frame_of}
+use Rattle.definitions.specs.Reading.{format_numbered, core_fill_clear, frame_of}
 use Rattle.definitions.specs.Order.{order_table, zero_or_one}
 
 -- a frame that the format can hold
@@ -30,16 +30,24 @@ pub record ReadsFrames (read : Reader) : Type 0 where
 pub record ReadsOneFrame (read : Reader) : Type 0 where
   pub exactly : (f : Format) (s : List ℕ) (x : Frame) (n : ℕ) → Octets s → (read f s ≡ ok (x, n)) ↔ (Valid f x × (s ≡ layout f x) × (length s ≡ n))
 
--- what is not such a reader: one that always declines, and one that always shows the same frame, as an empty one
-pub record WrongReaders : Type 0 where
-  pub declines : (read : Reader) → ((f : Format) (s : List ℕ) (y : Frame × ℕ) → read f s ≡ ok y → ⊥) → ReadsFrames read → ⊥
-  pub shows_one : (read : Reader) (x : Frame) (n : ℕ) → ((f : Format) (s : List ℕ) → read f s ≡ ok (x, n)) → ReadsFrames read → ⊥
+abbrev pub Layout : Type 0
+Layout = Format → Frame → List ℕ
+
+abbrev pub FrameCall : Type 0
+FrameCall = (format : ℕ) → List ℕ → (room : ℕ) → Outcome (Frame × ℕ)
+
+-- the same of a call that reads one frame by the format's number: it shows x, and how many octets of the core's buffer it needs, exactly where the
+-- octets are x's layout in that format and the buffer has room for them
+pub record ReadsCalls (read : FrameCall) : Type 0 where
+  pub exactly : (format : ℕ) (s : List ℕ) (room : ℕ) (x : Frame) (k : ℕ) → Octets s
+      → (read format s room ≡ ok (x, k))
+      ↔ ((f : Format) × (format_numbered format ≡ ok f) × Valid f x × (s ≡ layout f x) × (core_octets x.type ≤ room) × (core_octets x.type ≡ k))
 
 -- no two layouts are one another's beginning but with the same frame
-pub record LayoutsDiffer : Type 0 where
+pub record LayoutsDiffer (lay : Layout) : Type 0 where
   pub prefix_free : (f : Format) (x y : Frame) (a b : List ℕ) → Valid f x → Valid f y → Octets a → Octets b
-      → layout f x ++ a ≡ layout f y ++ b → (x ≡ y) × (a ≡ b)
-  pub injective : (f : Format) (x y : Frame) → Valid f x → Valid f y → layout f x ≡ layout f y → x ≡ y
+      → lay f x ++ a ≡ lay f y ++ b → (x ≡ y) × (a ≡ b)
+  pub injective : (f : Format) (x y : Frame) → Valid f x → Valid f y → lay f x ≡ lay f y → x ≡ y
 
 abbrev pub Builder : Type 0
 Builder = Format → ℕ → ℕ → ℕ → ℕ → List ℕ → ℕ → Outcome (List ℕ)

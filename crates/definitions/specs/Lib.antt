@@ -6,6 +6,10 @@ pub mod Order
 pub mod Reception
 pub mod WrongClassifiers
 pub mod Claims
+pub mod Refusals
+pub mod WrongReaders
+pub mod WrongBuilders
+pub mod WrongOrders
 pub mod Cases
 pub mod Bench
 pub mod WrongAnswerers

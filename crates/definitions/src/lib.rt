@@ -3,38 +3,56 @@
 // contract, so that none can go unseen.
 #![tactic(auto)]
 
-ghost use Rattle.std.specs.Prelude.{true};
-ghost use Rattle.definitions.specs.Reading.{read_frame, read_with, build_frame};
+ghost use Rattle.std.specs.Prelude.{true, false};
+ghost use Rattle.definitions.specs.Frames.{layout};
+ghost use Rattle.definitions.specs.Reading.{read_frame, read_with, read_call, build_frame};
 ghost use Rattle.definitions.specs.Order.{to_core_call, to_row_call};
-ghost use Rattle.definitions.specs.Claims.{ReadsFrames, ReadsOneFrame, WrongReaders, LayoutsDiffer, BuildsFrames, TablesPermute, OrdersBack};
+ghost use Rattle.definitions.specs.Claims.{ReadsFrames, ReadsOneFrame, ReadsCalls, LayoutsDiffer, BuildsFrames, TablesPermute, OrdersBack};
+ghost use Rattle.definitions.specs.Refusals.{RefusesFrames, RefusesCalls, RefusesBuilds, RefusesOrders, AnswersFixed};
+ghost use Rattle.definitions.specs.WrongReaders.{WrongReaders, WrongSingleReaders, WrongRefusals, WrongCalls};
+ghost use Rattle.definitions.specs.WrongBuilders.{WrongLayouts, WrongBuilders};
+ghost use Rattle.definitions.specs.WrongOrders.{WrongOrders};
 ghost use Rattle.definitions.specs.Reception.{frame_class, ClassifiesFrames, ClassesFixed};
 ghost use Rattle.definitions.specs.WrongClassifiers.{sti_at_34, sti_before_quality};
 ghost use Rattle.definitions.specs.Bench.{bench_answer, BenchCases};
 ghost use Rattle.definitions.specs.WrongAnswerers.{mode_low_bit_first, crc_of_whole_octets, if2_header_stored, no_added_one};
 
-// Does nothing. Its contract: demand 2 for a frame that is read where more may follow, and what is no such reader.
+// Does nothing. Its contract: demand 2 for a frame that is read where more may follow, each refusal on its condition, and what is no such
+// reader, as one that gives 7 where 5 applies.
 pub fn reader_claim()
-    ensures { ReadsFrames read_frame × WrongReaders }
+    ensures { ReadsFrames read_frame × RefusesFrames false read_frame × WrongReaders × WrongRefusals }
 {}
 
-// Does nothing. Its contract: demand 2 for a call that reads one frame.
+// Does nothing. Its contract: the same for a reader of a single frame.
 pub fn single_reader_claim()
-    ensures { ReadsOneFrame (read_with true) }
+    ensures { ReadsOneFrame (read_with true) × RefusesFrames true (read_with true) × WrongSingleReaders }
 {}
 
-// Does nothing. Its contract: layouts are prefix_free, and so injective.
+// Does nothing. Its contract: the same for the call that reads a single frame by the format's number, its core into a buffer; a call that says
+// "too short" for a buffer that fits is wrong.
+pub fn frame_call_claim()
+    ensures { ReadsCalls read_call × RefusesCalls read_call × WrongCalls }
+{}
+
+// Does nothing. Its contract: layouts are prefix_free, and so injective; a layout without the quality is not.
 pub fn layout_claim()
-    ensures { LayoutsDiffer }
+    ensures { LayoutsDiffer layout × WrongLayouts }
 {}
 
-// Does nothing. Its contract: demand 2 for a call that builds a frame.
+// Does nothing. Its contract: demand 2 for a call that builds a frame, each refusal on its condition, and what is no such builder.
 pub fn builder_claim()
-    ensures { BuildsFrames build_frame }
+    ensures { BuildsFrames build_frame × RefusesBuilds build_frame × WrongBuilders }
 {}
 
-// Does nothing. Its contract: the tables of codec order are permutations, and each of the two calls undoes the other.
+// Does nothing. Its contract: the claims of readers, of the call and of the builder fix each answer.
+pub fn answers_claim()
+    ensures { AnswersFixed }
+{}
+
+// Does nothing. Its contract: the tables of codec order are permutations, each of the two calls undoes the other, each
+// refusal comes on its condition, and what is no such order.
 pub fn order_claim()
-    ensures { TablesPermute × OrdersBack to_core_call to_row_call }
+    ensures { TablesPermute × OrdersBack to_core_call to_row_call × RefusesOrders to_core_call to_row_call × WrongOrders }
 {}
 
 // Does nothing. Its contract: the reception class of a frame is told by its type, its quality and the STI bit of a SID frame alone; this decides the

@@ -1,0 +1,77 @@
+-- A wrong call is asked for a row of mode 0; a number that stands twice is at two places, where `place-only` says one. Assumes nothing.
+use mathlib.Core.Path.{◌≡◌, refl, ap}
+use mathlib.Core.List.{List, ◌∷◌}
+use Prim.Native.Nat.{ℕ, zero, suc, ◌≤◌, ◌<◌}
+use native.Mathlib.Omega.{arith}
+use lib.ListN.{get_or, replicate}
+use borrow.Author.Tests.{leb-false}
+use Rattle.bits.specs.Bits.{odd, digits, num, bits}
+use Rattle.definitions.specs.Frames.{core_bits}
+use Rattle.definitions.specs.Claims.{times, Permutes}
+use Rattle.definitions.specs.Order.{place_of}
+use Rattle.definitions.specs.Refusals.{refusal_order, ToCoreFault, ToRowFault}
+use Rattle.definitions.specs.WrongOrders.{WrongOrders}
+use Rattle.definitions.proofs.Outcome.{first-holds}
+use Rattle.definitions.proofs.Order.{place-only}
+use Rattle.definitions.proofs.OrderRefusals.{to_core-room, to_row-room}
+
+-- two rows of mode 0
+abbrev row_of : ℕ → List ℕ
+row_of n = n ∷ replicate 131 0
+
+-- two cores of mode 0
+abbrev core_of : ℕ → List ℕ
+core_of n = n ∷ replicate 16 0
+
+zeros : (n i : ℕ) → ◌≡◌ {A = ℕ} (get_or (replicate n 0) i 0) 0
+zeros zero i = refl
+zeros (suc n) zero = refl
+zeros (suc n) (suc i) = zeros n i
+
+octet : (n i : ℕ) → n < 256 → get_or (core_of n) i 0 < 256
+octet n zero h = h
+octet n (suc i) h = omega (arith, zeros 16 i)
+
+twice : (k : ℕ) (table : List ℕ) (i j : ℕ) → i < j → j < k → get_or table i 0 ≡ get_or table j 0 → Permutes k table → ⊥
+twice k table i j h l e p =
+    let at : (n : ℕ) → n < k → times (get_or table n 0) table ≤ 1 = λ n m. omega (arith, p.once (get_or table n 0) (p.below n m)) in
+    omega (arith, place-only table i (omega (arith, p.whole)) (at i (omega arith)), place-only table j (omega (arith, p.whole)) (at j l), ap (λ n. place_of n table) e)
+
+pub wrong_orders : WrongOrders
+unfolding core_bits bits digits odd num
+wrong_orders = record {
+  entry_twice = twice;
+  declines = λ to_core to_row none claim.
+      let b = claim.row_back 0 (row_of 0) 17 132 (omega arith) refl refl (omega arith) (omega arith) in
+      none 0 (row_of 0) 17 b.0 b.1;
+  one_core = λ to_core to_row same claim.
+      let a = claim.row_back 0 (row_of 0) 17 132 (omega arith) refl refl (omega arith) (omega arith) in
+      let b = claim.row_back 0 (row_of 1) 17 132 (omega arith) refl refl (omega arith) (omega arith) in
+      let s = same 0 (row_of 0) (row_of 1) 17 in
+      let c : ◌≡◌ {A = List ℕ} a.0 b.0 = cc in
+      let r : row_of 0 ≡ row_of 1 = cc in
+      let z : ◌≡◌ {A = ℕ} 0 1 = ap (λ l. get_or l 0 0) r in
+      omega arith;
+  one_row = λ to_core to_row same claim.
+      let a = claim.core_back 0 (core_of 0) 132 17 (omega arith) (λ i. octet 0 i (omega arith)) refl refl (omega arith) (omega arith) in
+      let b = claim.core_back 0 (core_of 128) 132 17 (omega arith) (λ i. octet 128 i (omega arith)) refl refl (omega arith) (omega arith) in
+      let s = same 0 (core_of 0) (core_of 128) 132 in
+      let c : ◌≡◌ {A = List ℕ} a.0 b.0 = cc in
+      let r : core_of 0 ≡ core_of 128 = cc in
+      let z : ◌≡◌ {A = ℕ} 0 128 = ap (λ l. get_or l 0 0) r in
+      omega arith;
+  core_fits = λ to_core to_row mode row room l h claim.
+      omega (
+        arith,
+        l,
+        leb-false _ _ ((to_core-room mode row room).1
+            (first-holds (ToCoreFault mode row room) refusal_order 10 ((claim.to_core_exactly mode row room 10).0 h))),
+      );
+  row_fits = λ to_core to_row mode core room o l h claim.
+      omega (
+        arith,
+        l,
+        leb-false _ _ ((to_row-room mode core room).1
+            (first-holds (ToRowFault mode core room) refusal_order 10 ((claim.to_row_exactly mode core room 10 o).0 h))),
+      );
+}
