@@ -4,7 +4,7 @@ use Rattle.bits.specs.Bits.{one_if, Octets, pack}
 use Rattle.definitions.specs.Outcome.{Outcome, ok}
 use Rattle.definitions.specs.Frames.{Format, Frame, known, core_bits, core_octets, fields_good, layout}
 use Rattle.definitions.specs.Reading.{format_numbered, core_fill_clear, frame_of}
-use Rattle.definitions.specs.Order.{order_table, zero_or_one}
+use Rattle.definitions.specs.Order.{highest_ordered_mode, order_table, zero_or_one}
 
 -- a frame that the format can hold
 pub record Valid (f : Format) (x : Frame) : Type 0 where
@@ -73,14 +73,14 @@ pub record Permutes (k : ℕ) (table : List ℕ) : Type 0 where
   pub once : (n : ℕ) → n < k → times n table ≡ 1
 
 pub record TablesPermute : Type 0 where
-  pub each : (m : ℕ) → m ≤ 4 → Permutes (core_bits m) (order_table m)
+  pub each : (m : ℕ) → m ≤ highest_ordered_mode → Permutes (core_bits m) (order_table m)
 
 abbrev pub OrderCall : Type 0
 OrderCall = (mode : ℕ) → List ℕ → (room : ℕ) → Outcome (List ℕ)
 
 -- demand 2, of the two calls: with room for what each writes neither is refused, and the second gives back what the first was handed
 pub record OrdersBack (to_core to_row : OrderCall) : Type 0 where
-  pub row_back : (m : ℕ) (row : List ℕ) (room room' : ℕ) → m ≤ 4 → length row ≡ core_bits m → zero_or_one row ≡ true → core_octets m ≤ room
+  pub row_back : (m : ℕ) (row : List ℕ) (room room' : ℕ) → m ≤ highest_ordered_mode → length row ≡ core_bits m → zero_or_one row ≡ true → core_octets m ≤ room
       → core_bits m ≤ room' → (core : List ℕ) × (to_core m row room ≡ ok core) × (to_row m core room' ≡ ok row)
-  pub core_back : (m : ℕ) (core : List ℕ) (room room' : ℕ) → m ≤ 4 → Octets core → length core ≡ core_octets m → core_fill_clear m core ≡ true
+  pub core_back : (m : ℕ) (core : List ℕ) (room room' : ℕ) → m ≤ highest_ordered_mode → Octets core → length core ≡ core_octets m → core_fill_clear m core ≡ true
       → core_bits m ≤ room → core_octets m ≤ room' → (row : List ℕ) × (to_row m core room ≡ ok row) × (to_core m row room' ≡ ok core)

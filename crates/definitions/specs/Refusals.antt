@@ -4,8 +4,9 @@ use Rattle.std.specs.Prelude.{◌≡◌, ◌↔◌, ◌⊎◌, Bool, true, false
 use Rattle.bits.specs.Bits.{num, bits, Octets}
 use Rattle.parity.specs.Crc.{crc}
 use Rattle.definitions.specs.Outcome.{refused, ok}
-use Rattle.definitions.specs.Frames.{Format, if1, if2, storage, Frame, core_bits, class_a, octets, core_octets, carries_modes, header_bits, type_in, core_in, frame_in}
+use Rattle.definitions.specs.Frames.{Format, if1, if2, storage, highest_mode, sid_type, highest_type, sid_mode_at, Frame, core_bits, class_a, octets, core_octets, carries_modes, header_bits, type_in, core_in, frame_in}
 use Rattle.definitions.specs.Reading.{format_numbered, frame_of}
+use Rattle.definitions.specs.Order.{highest_ordered_mode}
 use Rattle.definitions.specs.Claims.{Reader, ReadsFrames, ReadsOneFrame, FrameCall, ReadsCalls, Builder, BuildsFrames, OrderCall}
 
 -- ---- the order
@@ -44,10 +45,10 @@ IsOne bs i = get_or bs i false ≡ true
 -- 0, and its mode is d(36..39). Both fields must be 0 where the frame does not carry them, which is anywhere but in IF1's types 0 to 9: they are
 -- read as 0 there, but a call that builds a frame is handed numbers
 pub data FieldFault (f : Format) (x : Frame) : Type 0 where
-  indication_above : 8 < x.indication → FieldFault f x
-  request_above : 8 < x.request → FieldFault f x
-  sid_indication : x.type ≡ 9 → 0 < x.indication → FieldFault f x
-  sid_mode : x.type ≡ 9 → 8 < num 4 (drop 36 x.core) → FieldFault f x
+  indication_above : highest_mode < x.indication → FieldFault f x
+  request_above : highest_mode < x.request → FieldFault f x
+  sid_indication : x.type ≡ sid_type → 0 < x.indication → FieldFault f x
+  sid_mode : x.type ≡ sid_type → highest_mode < num 4 (drop sid_mode_at x.core) → FieldFault f x
   indication_not_carried : carries_modes f x.type ≡ false → 0 < x.indication → FieldFault f x
   request_not_carried : carries_modes f x.type ≡ false → 0 < x.request → FieldFault f x
 
@@ -70,7 +71,7 @@ pub data FrameFault (single : Bool) (f : Format) (s : List ℕ) : ℕ → Type 0
   spare_bit : (i : ℕ) → SparePlace f i → IsOne (bits s) i → FrameFault single f s 5
   filling_bit : (i : ℕ) → FillingPlace f (type_of f s) i → IsOne (bits s) i → FrameFault single f s 5
   field : FieldFault f (frame_in f (bits s)) → FrameFault single f s 6
-  another_crc : f ≡ if1 → type_of f s ≤ 9 → (get_or s 2 0 ≡ num 8 (crc_of f s) → ⊥) → FrameFault single f s 7
+  another_crc : f ≡ if1 → type_of f s ≤ sid_type → (get_or s 2 0 ≡ num 8 (crc_of f s) → ⊥) → FrameFault single f s 7
 
 -- demand 2, of a reader's refusals: "Each number comes on its stated condition and on no other"
 pub record RefusesFrames (single : Bool) (read : Reader) : Type 0 where
@@ -92,7 +93,7 @@ pub record RefusesCalls (read : FrameCall) : Type 0 where
 -- 11 for the type, the quality, and for the core's length: "the core comes packed in exactly its octets, another length is 11 (not judged for types
 -- 10 to 13), a filling bit 1 is 5". Then 2 and 6 as in reading, and 10
 pub data BuildFault (f : Format) (t q i r : ℕ) (c : List ℕ) (room : ℕ) : ℕ → Type 0 where
-  type_above : 15 < t → BuildFault f t q i r c room 11
+  type_above : highest_type < t → BuildFault f t q i r c room 11
   quality_above : 1 < q → BuildFault f t q i r c room 11
   another_length : (Reserved t → ⊥) → (length c ≡ core_octets t → ⊥) → BuildFault f t q i r c room 11
   reserved_type : Reserved t → BuildFault f t q i r c room 2
@@ -108,18 +109,18 @@ pub record RefusesBuilds (build : Builder) : Type 0 where
 
 -- from the row to the core: 11 a mode above 8, another length of the row, or a value above 1; "12 codec order for modes 5 to 8"; 10
 pub data ToCoreFault (mode : ℕ) (row : List ℕ) (room : ℕ) : ℕ → Type 0 where
-  mode_above : 8 < mode → ToCoreFault mode row room 11
+  mode_above : highest_mode < mode → ToCoreFault mode row room 11
   another_length : (length row ≡ core_bits mode → ⊥) → ToCoreFault mode row room 11
   value_above : (i : ℕ) → 1 < get_or row i 0 → ToCoreFault mode row room 11
-  no_order : 4 < mode → ToCoreFault mode row room 12
+  no_order : highest_ordered_mode < mode → ToCoreFault mode row room 12
   too_little_room : room < core_octets mode → ToCoreFault mode row room 10
 
 -- from the core to the row: 11 a mode above 8 or another length of the core; 5 a filling bit 1, as in a call that builds a frame; 12; 10
 pub data ToRowFault (mode : ℕ) (core : List ℕ) (room : ℕ) : ℕ → Type 0 where
-  mode_above : 8 < mode → ToRowFault mode core room 11
+  mode_above : highest_mode < mode → ToRowFault mode core room 11
   another_length : (length core ≡ core_octets mode → ⊥) → ToRowFault mode core room 11
   filling_bit : (j : ℕ) → core_bits mode ≤ j → j < 8 * length core → IsOne (bits core) j → ToRowFault mode core room 5
-  no_order : 4 < mode → ToRowFault mode core room 12
+  no_order : highest_ordered_mode < mode → ToRowFault mode core room 12
   too_little_room : room < core_bits mode → ToRowFault mode core room 10
 
 pub record RefusesOrders (to_core to_row : OrderCall) : Type 0 where
