@@ -67,6 +67,12 @@ typedef struct {
     uint64_t indication, request;
     uint64_t core_octets;    /* octets written to core */
     uint64_t offset, number; /* the next frame's first octet, from 0 at the recording's start, and its number, from 0 */
+#ifdef __cplusplus
+    uint64_t class_;
+#else
+    uint64_t class;
+#endif
+    /* the reception class of the frame shown, 1 to 7 as above; 0 where no frame is shown: opened, at the end, refused */
 } amrwb_view;
 
 typedef struct {
@@ -125,13 +131,14 @@ amrwb_answer amrwb_order_to_row(uint64_t mode, const uint8_t *core, size_t core_
 /* Level two: a viewer, which hands out the frames of a recording in turn. The host keeps format, offset and number between the calls, and
  * lends the same recording to each. */
 
-/* Opens the recording rec of a format: offset is its first frame's, number and end are 0, and no frame is read. 11 for the format; 9; 8. */
+/* Opens the recording rec of a format: offset is its first frame's, number, end and class are 0, and no frame is read. 11 for the format; 9;
+ * 8. */
 amrwb_view amrwb_view_open(uint64_t format, const uint8_t *rec, size_t len);
 
-/* Reads the frame at offset, with the given number, and writes its packed core to core; offset and number of the answer are the next
- * frame's. At the end of the recording (offset is len) end is 1. There, and at a refusal, offset and number stay as given. 11 for the
- * format, an offset above len or a number above offset; the frame by 2, 3, 5, 6, 7, with number and offset as its place; 10. Length
- * and header of the recording are not judged again. */
+/* Reads the frame at offset, with the given number, and writes its packed core to core; class is the frame's, a SID frame's STI being d(35)
+ * of that core; offset and number of the answer are the next frame's. At the end of the recording (offset is len) end is 1. There, and at a
+ * refusal, class is 0, and offset and number stay as given. 11 for the format, an offset above len or a number above offset; the frame by 2, 3,
+ * 5, 6, 7, with number and offset as its place; 10. Length and header of the recording are not judged again. */
 amrwb_view amrwb_view_next(uint64_t format, uint64_t offset, uint64_t number, const uint8_t *rec, size_t len, uint8_t *core,
                            size_t core_len);
 

@@ -4,6 +4,7 @@ use crate::frame::{self, ALL_FORMATS};
 use crate::library::two_calls;
 use crate::random::{written, Random};
 use crate::random_recordings::{filled, format_like, some_recording};
+use crate::reception;
 use crate::recording::{Refusal, HEADER, LIMIT};
 use crate::tally::Tally;
 use crate::view;
@@ -40,10 +41,11 @@ fn some_number(g: &mut Random, offset: u64) -> u64 {
     number
 }
 
-/// The viewer's calls, and how often a recording was at its end.
+/// The viewer's calls: how often a recording was at its end, and how often an answer had each class, 0 where it showed no frame.
 #[derive(Default)]
 pub struct Views {
     ends: u64,
+    classes: [u64; 8],
 }
 
 impl Views {
@@ -87,14 +89,16 @@ impl Views {
         let kept = rec.to_vec();
         let mut core = Vec::new();
         let want = match view::next(format, offset, number, &kept, room) {
-            Err(Refusal(refusal, frame, octet)) => [refusal, frame, octet, 0, 0, 0, 0, 0, 0, offset, number],
-            Ok(None) => [0, 0, 0, 1, 0, 0, 0, 0, 0, offset, number],
+            Err(Refusal(refusal, frame, octet)) => [refusal, frame, octet, 0, 0, 0, 0, 0, 0, offset, number, 0],
+            Ok(None) => [0, 0, 0, 1, 0, 0, 0, 0, 0, offset, number, 0],
             Ok(Some((x, next))) => {
                 core = frame::pack(&x.core);
-                [0, 0, 0, 0, x.ftype, x.quality, x.indication, x.request, core.len() as u64, next, number + 1]
+                let class = reception::frame_class(&x);
+                [0, 0, 0, 0, x.ftype, x.quality, x.indication, x.request, core.len() as u64, next, number + 1, class]
             }
         };
         self.ends += want[3];
+        self.classes[want[11] as usize] += 1;
         let all = two_calls().all(|(level, calls)| {
             let mut out = written(room, &[]);
             let got = unsafe { (calls.view_next)(format, offset, number, rec.as_ptr(), rec.len(), out.as_mut_ptr(), room) }.fields();
@@ -122,18 +126,18 @@ impl Views {
         self.compare_next(tally, format, offset as u64, 0, rec, MOST_CORE).is_some()
     }
 
-    /// Prints how often a recording was at its end; false where it never was.
+    /// Prints how often a recording was at its end, and how often each class came; false where one of these never was.
     pub fn show(&self) -> bool {
-        println!("view_next at the end: {}", self.ends);
-        self.ends > 0
+        println!("view_next at the end: {}, by class (0 no frame): {:?}", self.ends, self.classes);
+        self.ends > 0 && self.classes.iter().all(|count| *count > 0)
     }
 }
 
 fn compare_open(tally: &mut Tally, format: u64, rec: &[u8]) -> bool {
     let kept = rec.to_vec();
     let want = match view::open(format, &kept) {
-        Err(Refusal(refusal, frame, octet)) => [refusal, frame, octet, 0, 0, 0, 0, 0, 0, 0, 0],
-        Ok(start) => [0, 0, 0, 0, 0, 0, 0, 0, 0, start as u64, 0],
+        Err(Refusal(refusal, frame, octet)) => [refusal, frame, octet, 0, 0, 0, 0, 0, 0, 0, 0, 0],
+        Ok(start) => [0, 0, 0, 0, 0, 0, 0, 0, 0, start as u64, 0, 0],
     };
     two_calls().all(|(level, calls)| {
         let got = unsafe { (calls.view_open)(format, rec.as_ptr(), rec.len()) }.fields();

@@ -30,7 +30,7 @@ macro_rules! answer {
 answer!(Answer[5] { refusal, frame, octet, frames, octets });
 answer!(FrameAnswer[8] { refusal, frame, octet, ftype, quality, indication, request, core_octets });
 answer!(ClassAnswer[4] { refusal, frame, octet, class });
-answer!(View[11] { refusal, frame, octet, end, ftype, quality, indication, request, core_octets, offset, number });
+answer!(View[12] { refusal, frame, octet, end, ftype, quality, indication, request, core_octets, offset, number, class });
 answer!(Counts[9] { refusal, frame, octet, octets, frames, speech, comfort, lost, empty });
 
 #[repr(C)]

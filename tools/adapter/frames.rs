@@ -25,8 +25,8 @@ fn list(options: &Options, input: &Input, out: &mut StandardOutput) -> Result<()
     let refused = |refusal| Trouble::refused(refusal, &recording);
     let mut viewer = Viewer::open(format, &recording).map_err(refused)?;
     while let Some(frame) = viewer.next().map_err(refused)? {
-        let class = CLASSES[frame.class().map_err(refused)? as usize - 1];
-        let Frame { number, offset, frame_type, quality, .. } = frame;
+        let Frame { number, offset, frame_type, quality, class, .. } = frame;
+        let class = CLASSES[class as usize - 1];
         writeln!(out, "{number}\t{}\t{offset}\t{frame_type}\t{quality}\t{class}", number * FRAME_MS)?;
     }
     Ok(())

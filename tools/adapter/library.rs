@@ -10,10 +10,8 @@ pub const REPORT_LIMIT: usize = 65_536;
 /// Octets of the longest packed core, type 8's.
 const LONGEST_CORE: usize = 60;
 
-/// The type of a SID frame, and the place of its STI, d(35), in the packed core.
+/// The type of a SID frame.
 pub const SID: u64 = 9;
-const STI_OCTET: usize = 35 / 8;
-const STI_SHIFT: u32 = 7 - 35 % 8;
 
 #[repr(C)]
 struct Answer {
@@ -22,14 +20,6 @@ struct Answer {
     octet: u64,
     frames: u64,
     octets: u64,
-}
-
-#[repr(C)]
-struct ClassAnswer {
-    refusal: u64,
-    frame: u64,
-    octet: u64,
-    class: u64,
 }
 
 #[repr(C)]
@@ -42,9 +32,10 @@ struct View {
     quality: u64,
     indication: u64,
     request: u64,
-    core_octets: u64,
+    _core_octets: u64,
     offset: u64,
     number: u64,
+    class: u64,
 }
 
 #[repr(C)]
@@ -72,7 +63,6 @@ extern "C" {
     fn amrwb_validate(format: u64, rec: *const u8, len: usize) -> Answer;
     fn amrwb_convert(from: u64, to: u64, request: u64, rec: *const u8, len: usize, out: *mut u8, out_len: usize) -> Answer;
     fn amrwb_convert_length(from: u64, to: u64, request: u64, rec: *const u8, len: usize) -> Answer;
-    fn amrwb_class(frame_type: u64, quality: u64, sti: u64) -> ClassAnswer;
     fn amrwb_view_open(format: u64, rec: *const u8, len: usize) -> View;
     fn amrwb_view_next(format: u64, offset: u64, number: u64, rec: *const u8, len: usize, core: *mut u8, core_len: usize) -> View;
     fn amrwb_report(rec: *const u8, len: usize) -> CountsAnswer;
@@ -114,7 +104,7 @@ pub fn report(recording: &[u8]) -> Result<Counts, Refusal> {
     Ok(a.counts)
 }
 
-/// One frame of a recording: its place, and its fields.
+/// One frame of a recording: its place, its fields, and the number of its reception class, 1 to 7.
 pub struct Frame {
     pub number: u64,
     pub offset: usize,
@@ -123,16 +113,7 @@ pub struct Frame {
     pub quality: u64,
     pub indication: u64,
     pub request: u64,
-    sti: u64,
-}
-
-impl Frame {
-    /// The number of its reception class, 1 to 7.
-    pub fn class(&self) -> Result<u64, Refusal> {
-        let a = unsafe { amrwb_class(self.frame_type, self.quality, self.sti) };
-        accepted(a.refusal, a.frame, a.octet)?;
-        Ok(a.class)
-    }
+    pub class: u64,
 }
 
 /// The frames of a recording in turn. At a refused frame it stays, so the first refusal must end the walk.
@@ -159,10 +140,6 @@ impl<'a> Viewer<'a> {
         if v.end == 1 {
             return Ok(None);
         }
-        let sti = match &core[..v.core_octets as usize] {
-            core if v.frame_type == SID => u64::from(core[STI_OCTET] >> STI_SHIFT & 1),
-            _ => 0,
-        };
         let frame = Frame {
             number: self.number,
             offset: self.offset as usize,
@@ -171,7 +148,7 @@ impl<'a> Viewer<'a> {
             quality: v.quality,
             indication: v.indication,
             request: v.request,
-            sti,
+            class: v.class,
         };
         (self.offset, self.number) = (v.offset, v.number);
         Ok(Some(frame))

@@ -3,7 +3,7 @@
 use Rattle.std.specs.Prelude.{◌≡◌, List, ℕ}
 use Rattle.definitions.specs.Outcome.{Outcome, refused, ok}
 use Rattle.definitions.specs.Frames.{core_octets}
-use Rattle.definitions.specs.Reception.{SpeechClass, speech_good, speech_bad, SidClass, sid_first, sid_update, sid_bad, Reception, speech, sid, speech_lost, no_data}
+use Rattle.definitions.specs.Reception.{SpeechClass, speech_good, speech_bad, SidClass, sid_first, sid_update, sid_bad, Reception, speech, sid, speech_lost, no_data, frame_class}
 use Rattle.recordings.specs.Placed.{Placed, refused_at, done}
 use Rattle.recordings.specs.Viewer.{View, shows, end, view_after}
 use Rattle.recordings.specs.Report.{Report}
@@ -44,6 +44,7 @@ unshown n k at e number offset = record {
   core_octets = 0;
   offset = offset;
   number = number;
+  class = 0;
 }
 
 -- opened: the number and the offset of the first frame
@@ -51,7 +52,7 @@ abbrev pub open_numbers : Placed (ℕ × ℕ) → ViewAnswer
 open_numbers (refused_at n k at) = unshown n k at 0 0 0
 open_numbers (done place) = unshown 0 0 0 0 place.0 place.1
 
--- the frame's fields and the octets of its packed core, or the end; number and offset stay as given at the end and at a refusal
+-- the frame's fields, the octets of its packed core and its class, or the end; number and offset stay as given at the end and at a refusal
 abbrev pub view_numbers : Placed View → ℕ × ℕ → ViewAnswer
 view_numbers (refused_at n k at) place = unshown n k at 0 place.0 place.1
 view_numbers (done end) place = unshown 0 0 0 1 place.0 place.1
@@ -67,6 +68,7 @@ view_numbers (done (shows x number offset)) place = record {
   core_octets = core_octets x.type;
   offset = offset;
   number = number;
+  class = class_number (frame_class x);
 }
 
 -- a call that shows a frame: the answer, and the core's buffer, d₀ before and d after it

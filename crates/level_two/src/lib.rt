@@ -1,7 +1,7 @@
-// Level two's C interface (include/amrwb.h): each function calls one entry and hands its answer on as numbers, as specs/Flat.antt says.
-// Every public function is an entry, and so are the two of level one's that are the same here; crates/level_two_c exports them. The answers
-// are structs with a number for each thing, and 0 for what is not there: no export may hand an enum to C, and Result and Option are enums.
-// One function for several calls would save no line: each is a name of C's and one call.
+// Level two's C interface (include/amrwb.h): each function calls one entry and hands its answer on as numbers, as specs/Flat.antt says; the
+// viewer's answer has the reception class of its frame too. Every public function is an entry, and so are the two of level one's that are the
+// same here; crates/level_two_c exports them. The answers are structs with a number for each thing, and 0 for what is not there: no export may
+// hand an enum to C, and Result and Option are enums. One function for several calls would save no line: each is a name of C's and one call.
 #![tactic(auto)]
 
 ghost use Rattle.std.specs.Prelude.{◌≡◌, length};
@@ -38,7 +38,7 @@ pub struct ClassAnswer {
     pub class: u64,
 }
 
-// A frame that is shown, or the end, or a refusal; with the place for the next call.
+// A frame that is shown, with its reception class, or the end, or a refusal; with the place for the next call.
 #[repr(C)]
 #[derive(Clone, Copy, Default)]
 pub struct ViewAnswer {
@@ -53,6 +53,7 @@ pub struct ViewAnswer {
     pub core_octets: u64,
     pub offset: u64,
     pub number: u64,
+    pub class: u64,
 }
 
 // A report by document 01's words; or a refusal.
@@ -241,6 +242,7 @@ pub fn amrwb_view_next(
             indication: u64::from(h.indication),
             request: u64::from(h.request),
             core_octets: packed_octets(h.frame_type),
+            class: class_number(reception::frame_class(h, core)),
             ..behind.into()
         },
         Ok(None) => ViewAnswer {

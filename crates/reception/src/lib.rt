@@ -1,17 +1,23 @@
-// The reception class of a frame, by its type, quality and STI. `reception_class` is an entry.
+// The reception class of a frame, by its type, quality and STI: of a frame that was read, and by numbers. `reception_class` is an entry.
 #![tactic(auto)]
 
-ghost use Rattle.std.specs.Prelude.{◌≡◌};
-ghost use Rattle.definitions.specs.Reception.{speech_class, sid_class, class_of, reception_class};
+ghost use Rattle.std.specs.Prelude.{◌≡◌, ◌≤◌, length};
+ghost use Rattle.definitions.specs.Frames.{core_octets};
+ghost use Rattle.definitions.specs.Reading.{buffer_core};
+ghost use Rattle.definitions.specs.Reception.{speech_class, sid_class, class_of, frame_class, reception_class};
+ghost use Rattle.frame.specs.Answers.{frame_with};
 ghost use Rattle.reception.specs.Classes.{speech_of, sid_of, reception_of, classified_of};
 
 use frame::table::octets_known;
-use frame::{Format, Refusal, SID};
+use frame::{Format, FrameHeader, Refusal, SID};
 
 // Types 0 to 8 are speech. Not `HIGHEST_MODE`, which is about modes.
 const LAST_SPEECH: u64 = 8;
 
 const SPEECH_LOST: u64 = 14;
+
+// Where a SID frame's core has STI, in bits.
+const STI_AT: usize = 35;
 
 #[derive(Clone, Copy)]
 pub enum SpeechClass {
@@ -66,6 +72,16 @@ pub fn class_of(t: u64, good: bool, sti: bool) -> Reception
         SPEECH_LOST => Reception::SpeechLost,
         _ => Reception::NoData,
     }
+}
+
+// The class of a frame that was read, whose packed core stands in a buffer. `pub` for level two's viewer.
+pub fn frame_class(h: FrameHeader, core: &[u8]) -> Reception
+    requires { core_octets h.frame_type ≤ length core.now }
+    ensures { reception_of result ≡ frame_class (frame_with h (buffer_core core.now h.frame_type)) }
+{
+    let t = u64::from(h.frame_type);
+    let sti = t == SID && bits::bit_at(core, STI_AT);
+    class_of(t, h.quality == 1, sti)
 }
 
 // The class by numbers.

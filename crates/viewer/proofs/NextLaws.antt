@@ -7,6 +7,7 @@ use native.Mathlib.Omega.{arith}
 use lib.ListN.{length, take, drop, length-drop}
 use lib.Seq.{take_all}
 use lib.Dec.{leb}
+use borrow.Author.Tests.{leb-true}
 use Rattle.std.specs.Prelude.{Some, None, Result, Ok, Err}
 use Rattle.bits.specs.Bits.{bits}
 use Rattle.definitions.specs.Outcome.{refused, ok, unless}
@@ -15,6 +16,7 @@ use Rattle.definitions.specs.Reading.{read_frame, format_numbered, into_buffer, 
 use Rattle.definitions.proofs.Frames.{never, read_known}
 use Rattle.recordings.specs.Placed.{Placed, refused_at, done, placed, and_then_at}
 use Rattle.recordings.specs.Viewer.{View, shows, end, next_call, into_room, view_call, view_after, moved}
+use Rattle.recordings.proofs.Scan.{not_done}
 use Rattle.recordings.proofs.ViewCalls.{next_frame, next_shown}
 use Rattle.frame.specs.Answers.{number_of, frame_with, reading_of}
 use Rattle.frame.specs.declared.FrameHeader.{FrameHeader}
@@ -132,3 +134,20 @@ module _ (format offset number : ℕ) (s : List ℕ) (x : FrameHeader) (p : Plac
           views = viewed _ _ _ _ (ap (λ c. done (shows (frame_with x c) p.number p.offset)) core ∙ sym is);
           buffer = put.buffer ∙ ap (λ o. core_after o d₀) w.0 ∙ sym (ap (λ o. view_after o d₀) is);
         }
+
+-- the core of a frame that is shown fits the buffer
+fits : (room : ℕ) (w : Placed View) (x : Frame) (number offset : ℕ) → and_then_at w (into_room room) ≡ done (shows x number offset) → core_octets x.type ≤ room
+fits room (refused_at n k at) x number offset h = not_done n k at (shows x number offset) h
+fits room (done end) x number offset h = absurd (let z : ◌≡◌ {A = ℕ} 0 1 = cc in omega arith)
+fits room (done (shows y j p)) x number offset h = go (leb (core_octets y.type) room) refl h
+  where
+    go : (b : Bool) → leb (core_octets y.type) room ≡ b → placed (unless {A = Frame × ℕ} 10 b (ok (y, core_octets y.type))) 0 0 (λ z. done (shows y j p)) ≡ done (shows x number offset)
+        → core_octets x.type ≤ room
+    go true e h = let same : y ≡ x = cc in subst (λ (z : Frame). core_octets z.type ≤ room) same (leb-true _ _ e)
+    go false e h = not_done 10 0 0 (shows x number offset) h
+
+pub core_fits : (format offset number : ℕ) (s d₀ d : List ℕ) (a : Result Shown RefusedAt) (x : FrameHeader) (p : Place)
+    → ViewsInto (view_call format offset number s (length d₀)) (number, offset) d₀ d a → a ≡ Ok (Some (x, p)) → core_octets x.frame_type ≤ length d₀
+unfolding view_call
+core_fits format offset number s d₀ d a x p v e =
+    fits (length d₀) (next_call format offset number s) (frame_with x (buffer_core d x.frame_type)) p.number p.offset (sym v.views.answer ∙ ap (view_of (buffer_core d)) e)
