@@ -1,0 +1,38 @@
+-- Each field of the viewer's promise, read off. Assumes nothing.
+use mathlib.Core.Path.{◌≡◌, ap}
+use Rattle.answers.proofs.Claims.{written}
+use Rattle.level_two.specs.declared.ViewAnswer.{ViewAnswer}
+use Rattle.level_two.specs.Claims.{LentOctets}
+
+-- a field of an answer
+module _ {a b : ViewAnswer} (e : a ≡ b) where
+  refusal : a.refusal ≡ b.refusal
+  refusal = ap (λ (v : ViewAnswer). v.refusal) e
+
+  last : a.end ≡ b.end
+  last = ap (λ (v : ViewAnswer). v.end) e
+
+  number : a.number ≡ b.number
+  number = ap (λ (v : ViewAnswer). v.number) e
+
+  offset : a.offset ≡ b.offset
+  offset = ap (λ (v : ViewAnswer). v.offset) e
+
+  class : a.class ≡ b.class
+  class = ap (λ (v : ViewAnswer). v.class) e
+
+pub lent_octets : LentOctets
+lent_octets = record {
+  view_refused = λ n k at place d₀ d r p. (
+      p.buffer,
+      refusal p.answer,
+      ap (λ (v : ViewAnswer). v.frame) p.answer,
+      ap (λ (v : ViewAnswer). v.octet) p.answer,
+      number p.answer,
+      offset p.answer,
+      class p.answer,
+    );
+  view_ended = λ place d₀ d r p. (p.buffer, refusal p.answer, last p.answer, number p.answer, offset p.answer, class p.answer);
+  view_shown = λ x m at place d₀ d r p.
+      (written _ d₀ d p.buffer, refusal p.answer, last p.answer, number p.answer, offset p.answer, class p.answer);
+}
