@@ -33,6 +33,11 @@ format_numbered (suc (suc zero)) = ok if2
 format_numbered (suc (suc (suc zero))) = ok storage
 format_numbered (suc (suc (suc (suc n)))) = refused 11
 
+abbrev pub format_number : Format → ℕ
+format_number if1 = 1
+format_number if2 = 2
+format_number storage = 3
+
 -- a frame whose packed core goes into a buffer of room octets, with how many it takes there
 abbrev pub into_buffer : Frame → ℕ → Outcome (Frame × ℕ)
 into_buffer x room = unless 10 (leb (core_octets x.type) room) (ok (x, core_octets x.type))

@@ -28,7 +28,8 @@ use Rattle.definitions.proofs.Claims.{layouts-differ}
 use Rattle.recordings.specs.Recordings.{layouts, write_recording}
 use Rattle.recordings.specs.Claims.{Every, none, first}
 use Rattle.recordings.proofs.Claims.{reads_recordings}
-use Rattle.recordings.specs.Demand3.{ValidRecording, OnlyGuardedDiffer, guarded_bits, guarded_at}
+use Rattle.recordings.specs.ConversionClaims.{ValidRecording}
+use Rattle.recordings.specs.Demand3.{OnlyGuardedDiffer, guarded_bits, guarded_at}
 use Rattle.recordings.proofs.Trips.{octets-layouts}
 
 -- ---- the frame that begins at an octet

@@ -1,5 +1,5 @@
--- Demand 3 of the definitions' conversion: equal recordings have equal frames, since a recording has one list of frames and is its layouts;
--- the round trips and the CRC are in Trips and Apart. Assumes nothing.
+-- Demand 3, of every converter that meets demand 2, and so of the definitions' conversion: equal recordings have equal frames, since a recording
+-- has one list of frames and is its layouts; the round trips and the CRC are in Trips and Apart. Assumes nothing.
 use mathlib.Core.Path.{◌≡◌, sym, ap, ◌∙◌, subst}
 use mathlib.Core.Logic.{◌↔◌}
 use mathlib.Core.List.{List}
@@ -10,8 +10,10 @@ use Rattle.recordings.specs.Recordings.{write_recording}
 use Rattle.recordings.specs.Conversion.{convert_call}
 use Rattle.recordings.specs.Claims.{IsRecording}
 use Rattle.recordings.proofs.Claims.{reads_recordings}
-use Rattle.recordings.specs.Demand3.{ValidRecording, Demand3}
-use Rattle.recordings.proofs.Trips.{round_trip}
+use Rattle.recordings.specs.ConversionClaims.{ValidRecording}
+use Rattle.recordings.specs.Demand3.{Demand3, RestsOnDemand2}
+use Rattle.recordings.proofs.Trips.{trip-refusals, round_trip}
+use Rattle.recordings.proofs.Conversions.{converts_frames}
 use Rattle.recordings.proofs.Apart.{guarded-apart}
 
 same_recordings : (f : Format) (a b : List ℕ) (xs ys : List Frame) → Octets a → Octets b → ValidRecording f a xs → ValidRecording f b ys
@@ -23,5 +25,8 @@ same_recordings f a b xs ys oa ob ha hb =
       (λ e. ra.laid ∙ ap (write_recording f) e ∙ sym rb.laid),
     )
 
+pub rests_on_demand_two : RestsOnDemand2
+rests_on_demand_two c d = record { same = same_recordings; trip = round_trip c d; refusals = trip-refusals c d; apart = guarded-apart }
+
 pub demand_three : Demand3 convert_call
-demand_three = record { same = same_recordings; trip = round_trip; apart = guarded-apart }
+demand_three = rests_on_demand_two convert_call converts_frames

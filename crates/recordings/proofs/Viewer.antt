@@ -9,14 +9,13 @@ use lib.ListN.{length, take, drop, replicate, length-replicate, length-append}
 use lib.Seq.{take_at, drop_at, drop-drop, drop-length, take_all}
 use Rattle.definitions.specs.Outcome.{refused, ok}
 use Rattle.definitions.specs.Frames.{Format, Frame, layout, octets}
-use Rattle.definitions.specs.Reading.{read_frame}
+use Rattle.definitions.specs.Reading.{read_frame, format_number}
 use Rattle.definitions.specs.Claims.{Valid}
 use Rattle.definitions.proofs.Tables.{sized}
 use Rattle.definitions.proofs.Frames.{length-layout, read-layout}
 use Rattle.recordings.specs.Placed.{Placed, refused_at, done}
 use Rattle.recordings.specs.Recordings.{limit, file_header, layouts, write_recording}
 use Rattle.recordings.specs.Claims.{Every, none, first, IsRecording, StopsAt}
-use Rattle.recordings.specs.Demand3.{format_number}
 use Rattle.recordings.specs.Viewer.{View, shows, open_call, next_call, Handed, frame, the_end, refusal, handed, moved, in_turn, Hands, NextRefusal, past_the_recording, number_above, frame_refused, ViewsRecordings}
 use Rattle.recordings.proofs.Claims.{octets-same, stopped_front, stopped_behind}
 use Rattle.recordings.proofs.Trips.{format_numbered_lem}

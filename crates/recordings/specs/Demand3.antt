@@ -1,25 +1,14 @@
 -- Demand 3, of a converter (document 01, "Recordings and conversion", second and third paragraphs, and "CRC"; the owner's third demand).
-use Rattle.std.specs.Prelude.{◌≡◌, Bool, cond, ◌↔◌, ◌≢◌, List, ◌∷◌, ◌++◌, map, ℕ, ◌+◌, ◌*◌, ◌≤◌, length, take, drop, leb}
+use Rattle.std.specs.Prelude.{◌≡◌, Bool, cond, ◌↔◌, ◌≢◌, List, ◌∷◌, ◌++◌, ℕ, ◌+◌, ◌*◌, ◌<◌, ◌≤◌, length, take, drop}
 use Rattle.bits.specs.Bits.{Octets, bits}
 use Rattle.parity.specs.Claims.{Apart}
 use Rattle.definitions.specs.Frames.{Format, if1, if2, storage, Frame, class_a, carries_modes}
-use Rattle.recordings.specs.Placed.{Placed, done, unless_at, and_then_at}
-use Rattle.recordings.specs.Recordings.{limit, read_recording, layouts, write_recording}
-use Rattle.recordings.specs.Conversion.{carried, converted, judged}
+use Rattle.definitions.specs.Reading.{format_number}
+use Rattle.recordings.specs.Placed.{refused_at, done}
+use Rattle.recordings.specs.Recordings.{limit, layouts}
+use Rattle.recordings.specs.Conversion.{converted}
 use Rattle.recordings.specs.Claims.{Every}
-
--- "A recording is accepted in a format": s is valid in the format, and xs is its list of frames
-abbrev pub ValidRecording : Format → List ℕ → List Frame → Type 0
-ValidRecording f s xs = read_recording f s ≡ done xs
-
-abbrev pub format_number : Format → ℕ
-format_number if1 = 1
-format_number if2 = 2
-format_number storage = 3
-
--- a call that converts: formats and request by number, the recording, and the room of the output buffer
-abbrev pub Converter : Type 0
-Converter = (from to request : ℕ) → List ℕ → (room : ℕ) → Placed (ℕ × List ℕ)
+use Rattle.recordings.specs.ConversionClaims.{ValidRecording, Converter, WritingRefusal, ConvertsFrames}
 
 -- "each speech frame's mode indication is its own type and each speech or comfort frame's mode request is r"
 pub record Kept (r : ℕ) (x : Frame) : Type 0 where
@@ -40,6 +29,18 @@ pub record RoundTrip (c : Converter) (f g : Format) (r : ℕ) (s : List ℕ) (xs
   pub back : List ℕ
   pub home : (room : ℕ) → length s ≤ room → c (format_number g) (format_number f) r there room ≡ done (length xs, back)
   pub unchanged : (back ≡ s) ↔ Returns f r xs
+
+-- the way back, of a recording of so many octets into so much room: "the second by 10"
+pub data BackRefusal (size room : ℕ) : (n k at : ℕ) → Type 0 where
+  no_room_back : room < size → BackRefusal size room 10 0 0
+
+-- When the calls of such a round trip are refused, whatever they are lent: "The first can be refused by 9 for what it would write or by 10, the
+-- second by 10, neither by anything else." The second takes what a first call that was not refused wrote.
+pub record TripRefusals (c : Converter) (f g : Format) (r : ℕ) (s : List ℕ) (xs : List Frame) : Type 0 where
+  pub out : (room n k at : ℕ)
+      → (c (format_number f) (format_number g) r s room ≡ refused_at n k at) ↔ WritingRefusal (length (converted f g r xs)) room n k at
+  pub home : (lent : ℕ) (y : ℕ × List ℕ) → c (format_number f) (format_number g) r s lent ≡ done y
+      → (room n k at : ℕ) → (c (format_number g) (format_number f) r y.1 room ≡ refused_at n k at) ↔ BackRefusal (length s) room n k at
 
 -- In an IF1 frame of type t the CRC octet begins at bit 16 and Class A follows it: so many bits. Types 14 and 15 have neither.
 abbrev pub guarded_bits : ℕ → ℕ
@@ -63,18 +64,15 @@ pub record Demand3 (c : Converter) : Type 0 where
   -- the round trips "in which what the first would write is within the length limit"
   pub trip : (f g : Format) → f ≢ g → (r : ℕ) → r ≤ 8 → (s : List ℕ) (xs : List Frame) → Octets s → ValidRecording f s xs
       → length (converted f g r xs) ≤ limit → RoundTrip c f g r s xs
+  -- every round trip, what its first call would write being longer than the limit or not
+  pub refusals : (f g : Format) → f ≢ g → (r : ℕ) → r ≤ 8 → (s : List ℕ) (xs : List Frame) → Octets s → ValidRecording f s xs
+      → TripRefusals c f g r s xs
   -- "any two accepted IF1 recordings that are unequal, but only in the Class A bits and CRC of a single frame", here the frame x behind
   -- the frames front
   pub apart : (a b : List ℕ) (front : List Frame) (x : Frame) (rest ys : List Frame) → Octets a → Octets b
       → ValidRecording if1 a (front ++ (x ∷ rest)) → ValidRecording if1 b ys → a ≢ b → OnlyGuardedDiffer (length (layouts if1 front)) x.type a b
       → Apart (guarded_at (length (layouts if1 front)) x.type a) (guarded_at (length (layouts if1 front)) x.type b)
 
--- what is not such a converter: one that copies the first frame and only counts the others
-abbrev pub first_only : Converter
-first_only from to request s room =
-    judged from to request
-    (λ f g.
-    and_then_at (read_recording f s)
-    (λ xs.
-    let w : List ℕ = write_recording g (map (carried g f request) (take 1 xs)) in
-    unless_at 9 (leb (length w) limit) (unless_at 10 (leb (length w) room) (done (length xs, w)))))
+-- demand 3 rests on demand 2: a converter that meets demand 2 meets demand 3
+abbrev pub RestsOnDemand2 : Type 0
+RestsOnDemand2 = (c : Converter) → ConvertsFrames c → Demand3 c

@@ -3,8 +3,10 @@ pub mod Recordings
 pub mod Conversion
 pub mod Claims
 pub mod WrongRecordingReaders
+pub mod ConversionClaims
 pub mod Demand3
 pub mod ThreeBits
+pub mod WrongConverters
 pub mod Viewer
 pub mod WrongViewers
 pub mod Report

@@ -5,7 +5,8 @@ use Rattle.bits.specs.Bits.{Octets}
 use Rattle.parity.specs.Places.{differences, count_true}
 use Rattle.parity.specs.Claims.{Apart}
 use Rattle.definitions.specs.Frames.{if1, Frame, frame_by}
-use Rattle.recordings.specs.Demand3.{ValidRecording, Converter, OnlyGuardedDiffer, guarded_at, Demand3}
+use Rattle.recordings.specs.ConversionClaims.{ValidRecording, Converter}
+use Rattle.recordings.specs.Demand3.{OnlyGuardedDiffer, guarded_at, Demand3}
 
 -- type 0, quality 1, indication and request 0
 abbrev pub good_frame : List Bool → Frame

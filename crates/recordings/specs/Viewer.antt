@@ -3,11 +3,10 @@ use Rattle.std.specs.Prelude.{◌≡◌, ◌&&◌, cond, ◌↔◌, List, [], �
 use Rattle.bits.specs.Bits.{Octets, pack}
 use Rattle.definitions.specs.Outcome.{refused}
 use Rattle.definitions.specs.Frames.{Format, Frame}
-use Rattle.definitions.specs.Reading.{read_frame, format_numbered, into_buffer, overwritten}
+use Rattle.definitions.specs.Reading.{read_frame, format_numbered, format_number, into_buffer, overwritten}
 use Rattle.recordings.specs.Placed.{Placed, refused_at, done, unless_at, and_then_at, placed}
 use Rattle.recordings.specs.Recordings.{limit, file_header, judged_front}
 use Rattle.recordings.specs.Claims.{IsRecording, StopsAt, FrontRefusal}
-use Rattle.recordings.specs.Demand3.{format_number}
 
 -- what a viewer hands out: a frame, with the number and the offset of the one behind it, or the end of the recording
 pub data View : Type 0 where

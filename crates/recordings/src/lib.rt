@@ -6,8 +6,10 @@ ghost use Rattle.recordings.specs.Recordings.{read_recording};
 ghost use Rattle.recordings.specs.Conversion.{convert_call};
 ghost use Rattle.recordings.specs.Claims.{ReadsRecordings, ReadersAgree};
 ghost use Rattle.recordings.specs.WrongRecordingReaders.{WrongRecordingReaders};
-ghost use Rattle.recordings.specs.Demand3.{Demand3, first_only};
+ghost use Rattle.recordings.specs.ConversionClaims.{ConvertsFrames};
+ghost use Rattle.recordings.specs.Demand3.{Demand3, RestsOnDemand2};
 ghost use Rattle.recordings.specs.ThreeBits.{ThreeIsSharp};
+ghost use Rattle.recordings.specs.WrongConverters.{first_only, drops_last, inverts_d0, counts_one_more, wants_one_more};
 ghost use Rattle.recordings.specs.Viewer.{open_call, next_call, ViewsRecordings};
 ghost use Rattle.recordings.specs.WrongViewers.{passes_refused, skips_frames};
 ghost use Rattle.recordings.specs.Report.{report_call, AddsUp};
@@ -19,9 +21,21 @@ pub fn reader_claim()
     ensures { ReadsRecordings read_recording × ReadersAgree × WrongRecordingReaders }
 {}
 
-// Does nothing. Its contract: demand 3, and that the converter which copies the first frame and counts the others does not meet it.
+// Does nothing. Its contract: demand 2 of a converter, that it writes and counts the frames which it read, as they are carried over, and that each
+// refusal comes on its condition only; and that the converter which drops the last frame, the one which inverts d(0) of each, the one which counts a
+// frame too many, and the one which refuses a buffer that fits, do not meet it.
+pub fn conversion_claim()
+    ensures { ConvertsFrames convert_call
+        × (ConvertsFrames drops_last → ⊥)
+        × (ConvertsFrames inverts_d0 → ⊥)
+        × (ConvertsFrames counts_one_more → ⊥)
+        × (ConvertsFrames wants_one_more → ⊥) }
+{}
+
+// Does nothing. Its contract: demand 3, which every converter that meets demand 2 meets, and that the converter which copies the first frame and counts
+// the others does not meet it.
 pub fn demand_three_claim()
-    ensures { Demand3 convert_call × (Demand3 first_only → ⊥) }
+    ensures { RestsOnDemand2 × Demand3 convert_call × (Demand3 first_only → ⊥) }
 {}
 
 // Does nothing. Its contract: two valid IF1 recordings of a good frame can differ in exactly three of its Class A and CRC bits, here d(0), d(1) and

@@ -1,11 +1,12 @@
 -- What a round trip by two conversions promises (document 01, "A trip in demand 3 is two conversions with one r").
 use Rattle.std.specs.Prelude.{◌≡◌, ◌↔◌, ◌≢◌, List, ℕ, ◌≤◌, length, Result}
 use Rattle.definitions.specs.Frames.{Format, Frame}
-use Rattle.definitions.specs.Reading.{overwritten}
-use Rattle.recordings.specs.Placed.{Placed, done, and_then_at}
+use Rattle.definitions.specs.Reading.{format_number, overwritten}
+use Rattle.recordings.specs.Placed.{Placed, refused_at, done, and_then_at}
 use Rattle.recordings.specs.Recordings.{limit}
 use Rattle.recordings.specs.Conversion.{converted, convert_call, counted_at, buffer_after}
-use Rattle.recordings.specs.Demand3.{ValidRecording, format_number, Returns}
+use Rattle.recordings.specs.ConversionClaims.{ValidRecording, WritingRefusal}
+use Rattle.recordings.specs.Demand3.{Returns, BackRefusal}
 use Rattle.recording_reader.specs.Answers.{counts_of}
 use Rattle.recording_reader.specs.declared.Counts.{Counts}
 use Rattle.recording_reader.specs.declared.RefusedAt.{RefusedAt}
@@ -21,6 +22,12 @@ pub record Returned (f : Format) (r : ℕ) (s : List ℕ) (xs : List Frame) (out
   pub output : out ≡ overwritten back out₀
   pub unchanged : (back ≡ s) ↔ Returns f r xs
 
+-- when it is refused: the first call, which would write `size` octets into `lent`, by 9 or 10; or the second, which would write `back` octets into
+-- `room`, by 10
+pub data TripRefusal (size lent back room : ℕ) : (n k at : ℕ) → Type 0 where
+  first_call : {n k at : ℕ} → WritingRefusal size lent n k at → TripRefusal size lent back room n k at
+  second_call : {n k at : ℕ} → size ≤ limit → size ≤ lent → BackRefusal back room n k at → TripRefusal size lent back room n k at
+
 -- the buffers are mid₀ and out₀ before the call, and mid and out after it
 pub record MakesTrip (from to request : ℕ) (s mid₀ mid out₀ out : List ℕ) (a : Result Counts RefusedAt) : Type 0 where
   -- for every input
@@ -31,3 +38,6 @@ pub record MakesTrip (from to request : ℕ) (s mid₀ mid out₀ out : List ℕ
   pub returns : (f g : Format) → f ≢ g → from ≡ format_number f → to ≡ format_number g → request ≤ 8 → (xs : List Frame) → ValidRecording f s xs
       → length (converted f g request xs) ≤ limit → length (converted f g request xs) ≤ length mid₀ → length s ≤ length out₀
       → Returned f request s xs out₀ out a
+  -- a valid recording is refused on these conditions, "neither by anything else"
+  pub refusals : (f g : Format) → f ≢ g → from ≡ format_number f → to ≡ format_number g → request ≤ 8 → (xs : List Frame) → ValidRecording f s xs
+      → (n k at : ℕ) → (counts_of a ≡ refused_at n k at) ↔ TripRefusal (length (converted f g request xs)) (length mid₀) (length s) (length out₀) n k at
