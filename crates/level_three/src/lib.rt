@@ -57,7 +57,7 @@ pub fn amrwb_link_up(
     ensures { FlatOutput (up_call link fqc rfci s1.now s2.now s3.now (length out.old)) out.old out.new result }
 {
     let s = SubflowOctets { s1, s2, s3 };
-    uplink::join_frame(link, fqc, rfci, s, out).into()
+    uplink::up(link, fqc, rfci, s, out).into()
 }
 
 pub fn amrwb_link_down(

@@ -6,7 +6,7 @@ use mathlib.Core.List.{List, ◌++◌}
 use Prim.Native.Nat.{ℕ, ◌+◌, ◌≤◌}
 use native.Mathlib.Omega.{arith}
 use lib.Dec.{eqb}
-use lib.ListN.{length, take, drop, length-append, length-drop}
+use lib.ListN.{length, take, drop, length-drop}
 use lib.Seq.{take_at, drop_at, drop-drop, take-add, take_all, length-take-le}
 use borrow.Author.Tests.{le-leb, eqb-true, eq-eqb}
 use Rattle.bits.specs.Bits.{bits, pack, octets_for, Octets}
@@ -21,10 +21,11 @@ use Rattle.recordings.specs.Conversion.{with_modes, without_modes}
 use Rattle.recordings.proofs.Returning.{carried-valid}
 use Rattle.links.specs.declared.Combination.{Combination}
 use Rattle.links.specs.Sets.{combinations, by_rfci, by_type}
-use Rattle.links.specs.Calls.{subflow_good, subflows_good, joined, up_frame, up_call, split, roomy, down_call}
+use Rattle.links.specs.Calls.{subflow_good, subflows_good, joined, up_frame, up_call, split, roomy}
+use Rattle.links.specs.History.{up_reply, down_reply, link_step}
 use Rattle.links.specs.ThereAndBack.{ThereAndBack}
 use Rattle.links.proofs.SetLaws.{combination-good, lookup-found, lookup_member}
-use Rattle.links.proofs.CallLaws.{member_set, read-laid, down_takes, up_makes, up_ok}
+use Rattle.links.proofs.CallLaws.{member_set, read-laid, down_takes, up_makes, up_ok, made-valid, frame-replied}
 
 -- ---- lists in three parts
 
@@ -95,7 +96,6 @@ modes_valid r x h v = carried-valid if1 if2 r (without_modes x) h (carried-valid
 -- ---- sub-flows joined, and split again
 
 record Joined (c : Combination) (s₁ s₂ s₃ : List ℕ) : Type 0 where
-  whole : length (joined c s₁ s₂ s₃) ≡ c.size1 + c.size2 + c.size3
   flow1 : pack (take c.size1 (joined c s₁ s₂ s₃)) ≡ s₁
   flow2 : pack (take c.size2 (drop c.size1 (joined c s₁ s₂ s₃))) ≡ s₂
   flow3 : pack (take c.size3 (drop (c.size1 + c.size2) (joined c s₁ s₂ s₃))) ≡ s₃
@@ -112,7 +112,6 @@ joined-split c s₁ s₂ s₃ o₁ o₂ o₃ h =
     let b₃ : List Bool = take c.size3 (bits s₃) in
     let parts = join_parts c.size1 c.size2 c.size3 b₁ b₂ b₃ p₁.whole p₂.whole p₃.whole in
     record {
-      whole = omega (arith, length-append b₁ (b₂ ++ b₃), length-append b₂ b₃, p₁.whole, p₂.whole, p₃.whole);
       flow1 = ap pack parts.0 ∙ p₁.packed;
       flow2 = ap pack parts.1 ∙ p₂.packed;
       flow3 = ap pack parts.2 ∙ p₃.packed;
@@ -129,16 +128,9 @@ module _ (r q : ℕ) (c : Combination) (s₁ s₂ s₃ : List ℕ) where
       go true = refl
       go false = refl
 
-  quality_bit : (up_frame r q c s₁ s₂ s₃).quality ≤ 1
-  quality_bit = go (eqb q 0)
-    where
-      go : (b : Bool) → cond b 1 0 ≤ 1
-      go true = omega arith
-      go false = omega arith
-
 -- ---- the calls
 
-pub there_and_back : ThereAndBack up_call down_call
+pub there_and_back : ThereAndBack link_step
 there_and_back = record {
   down_up = λ l s x n c m₁ m₂ m₃ room a o h q m t rooms enough.
       let v = ((reads_one_frame.exactly if1 s x n o).0 h).0 in
@@ -151,26 +143,24 @@ there_and_back = record {
       let e : up_frame l.request 0 c d.flow1 d.flow2 d.flow3 ≡ with_modes l.request x =
       λ i. with_modes l.request (frame_by (t i) (sym q i) 0 0 (j.1 i)) in (
         d,
-        down_takes l s m₁ m₂ m₃ x n c p h by-t rooms,
+        ap down_reply (down_takes l s m₁ m₂ m₃ x n c p h by-t rooms),
         record {
           good = ap (λ k. cond (eqb k 1) 0 1) q;
           rfci = refl;
-          frame = up_makes l c.rfci d.flow1 d.flow2 d.flow3 room c (with_modes l.request x) g.rfci p by-r j.0 e
-              (modes_valid l.request x a.mode v).fields_are_good enough;
+          joined = ap up_reply (up_makes l c.rfci d.flow1 d.flow2 d.flow3 room c (with_modes l.request x) g.rfci p by-r j.0 e
+              (modes_valid l.request x a.mode v).fields_are_good enough);
         },
       );
   up_down = λ l q i s₁ s₂ s₃ room w m₁ m₂ m₃ a o₁ o₂ o₃ n h r₁ r₂ r₃.
-      let u = up_ok l i s₁ s₂ s₃ room q w n h in
+      let u = up_ok l i s₁ s₂ s₃ room q w n (frame-replied (up_call l q i s₁ s₂ s₃ room) w h) in
       let c = u.c in
       let x = up_frame l.request q c s₁ s₂ s₃ in
       let f = lookup-found by_rfci i (combinations l.set) c u.found in
-      let g = combination-good c f.good in
       let j = joined-split c s₁ s₂ s₃ o₁ o₂ o₃ u.subflows in
-      let v : Valid if1 (up_frame l.request q u.c s₁ s₂ s₃) =
-      record { type_known = g.type_known; quality_bit = quality_bit l.request q c s₁ s₂ s₃; core_length = j.whole ∙ g.sum; fields_are_good = u.fields } in (
+      let v = made-valid l i s₁ s₂ s₃ room q w u in (
         split l c x,
-        down_takes l w m₁ m₂ m₃ x _ c (member_set l f.member) (ap (read_with true if1) (sym u.answer) ∙ read-laid x v)
-            (lookup_member by_type c.frame_type c f.member a.good (eq-eqb c.frame_type _ refl)) (j.rooms m₁ m₂ m₃ r₁ r₂ r₃),
+        ap down_reply (down_takes l w m₁ m₂ m₃ x _ c (member_set l f.member) (ap (read_with true if1) (sym u.answer) ∙ read-laid x v)
+            (lookup_member by_type c.frame_type c f.member a.good (eq-eqb c.frame_type _ refl)) (j.rooms m₁ m₂ m₃ r₁ r₂ r₃)),
         record {
           fqc = quality_again l.request q c s₁ s₂ s₃;
           rfci = eqb-true _ _ f.named;

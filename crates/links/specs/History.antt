@@ -1,12 +1,12 @@
--- What a link keeps over any list of calls (document 01, "The link", and the visit's link "that keeps its first request").
-use Rattle.std.specs.Prelude.{◌≡◌, true, false, cond, List, [], ◌∷◌, ℕ, ◌%◌, ◌≤◌, eqb, leb, length}
+-- What a link keeps over any list of calls (document 01, "The link").
+use Rattle.std.specs.Prelude.{◌≡◌, true, false, cond, ◌↔◌, List, [], ◌∷◌, map, ℕ, ◌%◌, ◌≤◌, leb, length}
 use Rattle.definitions.specs.Outcome.{Outcome, refused, ok}
 use Rattle.definitions.specs.Frames.{if1, Frame}
 use Rattle.definitions.specs.Reading.{read_with}
 use Rattle.links.specs.declared.Combination.{Combination}
 use Rattle.links.specs.declared.Link.{Link}
 use Rattle.links.specs.Sets.{all_good, most, set_good, combinations, rfc_set}
-use Rattle.links.specs.Calls.{no_request, link_by, has_set, in_fives, assign_call, release_call, rate_call, link_after, up_call, Down, recorded, down_call, down_after}
+use Rattle.links.specs.Calls.{no_request, link_by, has_set, in_fives, assign_call, release_call, rate_call, link_after, up_call, Down, down_call, down_after}
 
 pub data Call : Type 0 where
   assign : List ℕ → Call
@@ -38,7 +38,7 @@ down_reply (ok d) = subflows d
 abbrev pub LinkProgram : Type 0
 LinkProgram = Link → Call → Reply × Link
 
--- the link of document 01
+-- the link of document 01; in Up "state unchanged"
 abbrev pub link_step : LinkProgram
 link_step l (assign ns) = (move_reply (assign_call l ns), link_after (assign_call l ns) l)
 link_step l release = (move_reply (release_call l), link_after (release_call l) l)
@@ -74,13 +74,22 @@ said c accepted = said_in c
 said c (frame w) = said_in c
 said c (subflows d) = said_in c
 
--- the state after a list of calls, and what they said; the latest call comes first, and so does what it said
-abbrev pub after : Link → LinkProgram → List Call → Link × List Said
+-- the state after a list of calls, and each call with its reply; the latest call comes first, and so does its reply
+abbrev pub after : {S C R : Type 0} → S → (S → C → R × S) → List C → S × List (C × R)
 after fresh step [] = (fresh, [])
-after fresh step (c ∷ cs) =
-    let p : Link × List Said = after fresh step cs in
-    let r : Reply × Link = step p.0 c in
-    (r.1, said c r.0 ∷ p.1)
+after {S} {C} {R} fresh step (c ∷ cs) =
+    let p : S × List (C × R) = after fresh step cs in
+    let r : R × S = step p.0 c in
+    (r.1, (c, r.0) ∷ p.1)
+
+abbrev pub Replied : Type 0
+Replied = List (Call × Reply)
+
+abbrev pub all_said : Replied → List Said
+all_said = map (λ e. said e.0 e.1)
+
+abbrev pub replies : Replied → List Reply
+replies = map (λ e. e.1)
 
 -- "what the last accepted assign or release says"
 abbrev pub set_said : List Said → List Combination
@@ -122,47 +131,11 @@ pub record RightLink (l : Link) : Type 0 where
 
 pub record Remembers (fresh : Link) (step : LinkProgram) : Type 0 where
   -- from a fresh link, after any list of calls, the state is what the accepted ones said, and it is right
-  pub state : (cs : List Call) → (after fresh step cs).0 ≡ link_said (after fresh step cs).1
+  pub state : (cs : List Call) → (after fresh step cs).0 ≡ link_said (all_said (after fresh step cs).1)
   pub right : (cs : List Call) → RightLink (after fresh step cs).0
-  -- in any state whatever: a refused call leaves it, and these calls are refused for their reasons only
+  -- in any state whatever: a refused call leaves it, and these calls are accepted exactly where no refusal has its reason
   pub kept : (l : Link) (c : Call) (n : ℕ) → (step l c).0 ≡ refusal n → (step l c).1 ≡ l
-  pub assigns : (l : Link) (ns : List ℕ) → length ns % 5 ≡ 0 → set_good (in_fives ns) ≡ true → has_set l ≡ false → (step l (assign ns)).0 ≡ accepted
-  pub releases : (l : Link) → has_set l ≡ true → (step l release).0 ≡ accepted
-  pub commands : (l : Link) (m : ℕ) → m ≤ 8 → (step l (rate m)).0 ≡ accepted
-
--- ---- what is not such a link
-
--- one that keeps its first request above 0: Up's frames would carry it for ever
-abbrev pub keeps_first : LinkProgram
-keeps_first l (assign ns) = link_step l (assign ns)
-keeps_first l release = link_step l release
-keeps_first l (rate m) = cond (eqb l.request 0) (link_step l (rate m)) (move_reply (rate_call l m), l)
-keeps_first l (up q i s₁ s₂ s₃ room) = link_step l (up q i s₁ s₂ s₃ room)
-keeps_first l (down s m₁ m₂ m₃) = link_step l (down s m₁ m₂ m₃)
-
--- one that keeps the first request that it forwarded: Down would forward a later one for ever
-abbrev pub keeps_forwarded : LinkProgram
-keeps_forwarded l (assign ns) = link_step l (assign ns)
-keeps_forwarded l release = link_step l release
-keeps_forwarded l (rate m) = link_step l (rate m)
-keeps_forwarded l (up q i s₁ s₂ s₃ room) = link_step l (up q i s₁ s₂ s₃ room)
-keeps_forwarded l (down s m₁ m₂ m₃) =
-    cond (eqb l.forwarded no_request) (link_step l (down s m₁ m₂ m₃)) (down_reply (down_call l s m₁ m₂ m₃), l)
-
--- one whose Down records the request of a frame that it refuses
-abbrev pub recorded_anyway : Outcome Down → Outcome (Frame × ℕ) → Link → Link
-recorded_anyway (refused n) (refused m) l = l
-recorded_anyway (refused n) (ok y) l = link_by l.set l.request y.0.request
-recorded_anyway (ok d) y l = recorded d.forward l
-
-abbrev pub records_refused : LinkProgram
-records_refused l (assign ns) = link_step l (assign ns)
-records_refused l release = link_step l release
-records_refused l (rate m) = link_step l (rate m)
-records_refused l (up q i s₁ s₂ s₃ room) = link_step l (up q i s₁ s₂ s₃ room)
-records_refused l (down s m₁ m₂ m₃) =
-    (down_reply (down_call l s m₁ m₂ m₃), recorded_anyway (down_call l s m₁ m₂ m₃) (read_with true if1 s) l)
-
--- one that refuses everything
-abbrev pub refuses_all : LinkProgram
-refuses_all l c = (refusal 11, l)
+  pub assigns : (l : Link) (ns : List ℕ)
+      → ((step l (assign ns)).0 ≡ accepted) ↔ ((length ns % 5 ≡ 0) × (set_good (in_fives ns) ≡ true) × (has_set l ≡ false))
+  pub releases : (l : Link) → ((step l release).0 ≡ accepted) ↔ (has_set l ≡ true)
+  pub commands : (l : Link) (m : ℕ) → ((step l (rate m)).0 ≡ accepted) ↔ (m ≤ 8)

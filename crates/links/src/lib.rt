@@ -5,9 +5,11 @@
 ghost use Rattle.std.specs.Prelude.{◌≡◌, leb};
 ghost use Rattle.definitions.specs.Outcome.{ok, unless};
 ghost use Rattle.links.specs.Answers.{fqc_number, numbered_of};
-ghost use Rattle.links.specs.Calls.{fresh_link, up_call, down_call};
-ghost use Rattle.links.specs.History.{link_step, Remembers, keeps_first, keeps_forwarded, records_refused, refuses_all};
+ghost use Rattle.links.specs.Calls.{fresh_link};
+ghost use Rattle.links.specs.History.{link_step, Remembers};
+ghost use Rattle.links.specs.UpAndDown.{AnswersByRule};
 ghost use Rattle.links.specs.ThereAndBack.{ThereAndBack};
+ghost use Rattle.links.specs.WrongLinks.{WrongLinks};
 
 use frame::Refusal;
 
@@ -56,7 +58,7 @@ pub struct Link {
     pub forwarded: u16,
 }
 
-// What Up or Down answers, and the state after the call.
+// What Down answers, and the state after the call.
 #[derive(Clone, Copy)]
 pub struct Answered<T> {
     pub answer: Result<T, Refusal>,
@@ -89,18 +91,24 @@ impl From<Fqc> for u64 {
 }
 
 // Does nothing. Its contract: after any list of calls from a fresh link the state is what the accepted calls said; a refused call leaves
-// it; and Assign, Release and Rate command are refused for their reasons only.
+// it; and Assign, Release and Rate command are accepted exactly where no refusal has its reason.
 pub fn history_claim()
     ensures { Remembers fresh_link link_step }
 {}
 
-// Does nothing. Its contract: four wrong links do not meet that claim. One keeps its first request, one the first that it forwarded, one
-// records a refused frame's request, and one refuses everything.
+// Does nothing. Its contract: after any list of calls from a fresh link, what Up writes has the request of the last accepted rate command,
+// and Down says that a request is forwarded, and which, exactly where it is unlike the last one that it said.
+pub fn answers_claim()
+    ensures { AnswersByRule fresh_link link_step }
+{}
+
+// Does nothing. Its contract: wrong links do not meet these claims: one that keeps its first request, one that keeps the first that it
+// forwarded, one that records and does not say so, and others.
 pub fn wrong_links_claim()
-    ensures { (Remembers fresh_link keeps_first → ⊥) × (Remembers fresh_link keeps_forwarded → ⊥) × (Remembers fresh_link records_refused → ⊥) × (Remembers fresh_link refuses_all → ⊥) }
+    ensures { WrongLinks }
 {}
 
 // Does nothing. Its contract: Up joins what Down split, and Down splits what Up joined, for any sizes.
 pub fn there_and_back_claim()
-    ensures { ThereAndBack up_call down_call }
+    ensures { ThereAndBack link_step }
 {}

@@ -1,2 +1,1 @@
 pub mod Subflows
-pub mod Answers

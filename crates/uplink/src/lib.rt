@@ -1,4 +1,4 @@
-// Up: three sub-flows joined into an IF1 frame. `up` is an entry; `join_frame` is `pub` for level three.
+// Up: three sub-flows joined into an IF1 frame. `up` is an entry.
 #![tactic(auto)]
 
 ghost use Rattle.std.specs.Prelude.{◌≡◌, Bool, List, ◌++◌, ℕ, ◌+◌, ◌*◌, ◌^◌, ◌<◌, ◌≤◌, length, take, drop};
@@ -7,14 +7,13 @@ ghost use Rattle.links.specs.Calls.{joined, up_frame, written, up_call};
 ghost use Rattle.uplink_judge.specs.Judging.{HasCore};
 ghost use Rattle.frame_builder.specs.Output.{IntoOutput};
 ghost use Rattle.uplink.specs.Subflows.{Joinable};
-ghost use Rattle.uplink.specs.Answers.{UpInto};
 
 use combinations::NO_DATA;
 use frame::table::core_octets;
 use frame::{Format, FrameHeader, IF1_CORE_AT, Refusal, indication_of};
 use frame_builder::{build, core_fields_good};
 use frame_writer::write_modes;
-use links::{Answered, Combination, Link};
+use links::{Combination, Link};
 use uplink_judge::{SubflowOctets, judge, quality_of};
 
 // The octets of the longest core. There is no heap: a core is a buffer of so many octets, with its count beside it.
@@ -82,9 +81,9 @@ fn build_joined(
     Ok(n)
 }
 
-// Makes an IF1 frame of three sub-flows, by FQC and RFCI. `pub` for level three, whose answer has no state. Link, FQC, RFCI and sub-flows are
-// separate arguments, as the entry has them.
-pub fn join_frame(
+// Makes an IF1 frame of three sub-flows, by FQC and RFCI. An entry. The state is handed in by value and none comes back, as it stays the
+// same. Link, FQC, RFCI and sub-flows are separate arguments, as C has them.
+pub fn up(
     link: Link,
     fqc: u64,
     rfci: u64,
@@ -100,12 +99,4 @@ pub fn join_frame(
             build(Format::If1, NO_DATA, quality, 0, 0, &[], out)
         }
     }
-}
-
-// The same, with the state handed back. An entry.
-pub fn up(link: Link, fqc: u64, rfci: u64, s: SubflowOctets<'_>, out: &mut [u8]) -> Answered<usize>
-    ensures { UpInto (up_call link fqc rfci s.entry.s1.now s.entry.s2.now s.entry.s3.now (length out.old)) link out.old out.new result }
-{
-    let answer = join_frame(link, fqc, rfci, s, out);
-    Answered { answer, link }
 }

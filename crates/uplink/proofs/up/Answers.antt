@@ -1,9 +1,9 @@
--- `uplink::join_frame` meets its contract: what was judged is written. Assumes nothing.
+-- `uplink::up` meets its contract: what was judged is written. Assumes nothing.
 use mathlib.Core.Path.{ap, ◌∙◌}
 use lib.ListN.{length}
 use Rattle.std.proofs.Common.{Ok}
 use Rattle.uplink.proofs.UpLaws.{none-built, into_same}
-use Rattle.uplink.proofs.join_frame.Goals as goal
+use Rattle.uplink.proofs.up.Goals as goal
 
 pub build_joined-requires : goal.build_joined-requires
 build_joined-requires c = c.judge.ensures.core _ (c.in_ok-c.was ∙ ap Ok c.in-Some.is)
