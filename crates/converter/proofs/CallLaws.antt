@@ -14,7 +14,7 @@ use Rattle.definitions.specs.Reading.{format_numbered, overwritten}
 use Rattle.definitions.proofs.Frames.{never}
 use Rattle.recordings.specs.Placed.{Placed, refused_at, done, and_then_at, unless_at, placed}
 use Rattle.recordings.specs.Recordings.{limit, read_recording}
-use Rattle.recordings.specs.Conversion.{converted, conversion, judged, convert_call, counted_at, length_call, buffer_after}
+use Rattle.recordings.specs.Conversion.{converted, conversion, arguments_judged, convert_call, counted_at, length_call, buffer_after}
 use Rattle.recordings.proofs.Scan.{not_done, not_refused}
 use Rattle.recording_reader.specs.Answers.{counts_of}
 use Rattle.recording_reader.specs.declared.Counts.{Counts}
@@ -32,7 +32,7 @@ module _ (from to request : ℕ) {A : Type 0} (next : Format → Format → Plac
   abbrev judges : Outcome Format → Outcome Format → Bool → Placed A
   judges a b c = placed a 0 0 (λ f. placed b 0 0 (λ g. unless_at 11 c (next f g)))
 
-  judged_refused : (n : ℕ) → refused n ≡ asked from to request → judged from to request next ≡ refused_at n 0 0
+  judged_refused : (n : ℕ) → refused n ≡ asked from to request → arguments_judged from to request next ≡ refused_at n 0 0
   judged_refused n h = go (format_numbered from) (format_numbered to) (leb request 8) h
     where
       go : (a b : Outcome Format) (c : Bool) → refused n ≡ asks a b c → judges a b c ≡ refused_at n 0 0
@@ -41,7 +41,7 @@ module _ (from to request : ℕ) {A : Type 0} (next : Format → Format → Plac
       go (ok f) (ok g) false h = let q : 11 ≡ n = cc in ap (λ k. refused_at k 0 0) q
       go (ok f) (ok g) true h = never n (f, g, request) h
 
-  judged_passes : (f g : Format) (r : ℕ) → ok (f, g, r) ≡ asked from to request → (judged from to request next ≡ next f g) × (r ≡ request)
+  judged_passes : (f g : Format) (r : ℕ) → ok (f, g, r) ≡ asked from to request → (arguments_judged from to request next ≡ next f g) × (r ≡ request)
   judged_passes f g r h = go (format_numbered from) (format_numbered to) (leb request 8) h
     where
       go : (a b : Outcome Format) (c : Bool) → ok (f, g, r) ≡ asks a b c → (judges a b c ≡ next f g) × (r ≡ request)

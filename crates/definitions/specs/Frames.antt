@@ -47,6 +47,10 @@ sti_at = 35
 abbrev pub sid_mode_at : ℕ
 sid_mode_at = 36
 
+-- CRC(7) to CRC(0)
+abbrev pub crc_bits : ℕ
+crc_bits = 8
+
 -- in an IF1 frame of types 0 to 9: the bits at which indication, request, CRC and core begin
 abbrev pub indication_at : ℕ
 indication_at = 8

@@ -25,7 +25,7 @@ use Rattle.links.proofs.SetLaws.{combination-good, lookup-found}
 use Rattle.downlink_flows.specs.Answers.{numbers, subflows_of, SubflowsPut}
 use Rattle.downlink_flows.specs.declared.Subflows.{Subflows}
 use Rattle.downlink_flows.proofs.FlowLaws.{length_part}
-use Rattle.downlink.specs.Answers.{shown, flow_after, next_link, SplitInto}
+use Rattle.downlink.specs.Answers.{in_numbers, flow_after, next_link, SplitInto}
 
 -- ---- the promise
 
@@ -80,7 +80,7 @@ module _ (l : Link) (h : FrameHeader) (s : List ℕ) (c : Combination) (m₁ m�
   frame_into from a₀ a b₀ b c₀ d r e w put f =
       let o = frame-split w in
       record {
-        answer = ap ok f ∙ sym (ap shown o);
+        answer = ap ok f ∙ sym (ap in_numbers o);
         buffer1 = laid 0 c.size1 from a₀ a e (omega arith) put.flow1 ∙ sym (ap (λ o. flow_after (λ y. y.flow1) o a₀) o);
         buffer2 = laid c.size1 c.size2 from b₀ b e (omega arith) put.flow2 ∙ sym (ap (λ o. flow_after (λ y. y.flow2) o b₀) o);
         buffer3 = laid (c.size1 + c.size2) c.size3 from c₀ d e (omega arith) put.flow3 ∙ sym (ap (λ o. flow_after (λ y. y.flow3) o c₀) o);
@@ -88,6 +88,6 @@ module _ (l : Link) (h : FrameHeader) (s : List ℕ) (c : Combination) (m₁ m�
 
 -- ---- the state after it
 
-pub next_after : (o : Outcome Down) (l : Link) → next_link (shown o) l ≡ down_after o l
+pub next_after : (o : Outcome Down) (l : Link) → next_link (in_numbers o) l ≡ down_after o l
 next_after (refused n) l = refl
 next_after (ok d) l = refl

@@ -10,9 +10,9 @@ use Rattle.links.specs.Calls as paper
 use Rattle.downlink_flows.specs.declared.Subflows.{Subflows}
 use Rattle.downlink_flows.specs.Answers.{Numbers, numbers, subflows_of}
 
-abbrev pub shown : Outcome paper.Down → Outcome Numbers
-shown (refused n) = refused n
-shown (ok d) = ok (numbers d)
+abbrev pub in_numbers : Outcome paper.Down → Outcome Numbers
+in_numbers (refused n) = refused n
+in_numbers (ok d) = ok (numbers d)
 
 abbrev pub down_of : Result Subflows Refusal → Outcome Numbers
 down_of = outcome_of subflows_of
@@ -24,7 +24,7 @@ flow_after flow (ok y) d = overwritten (flow y) d
 
 -- the answer, and the buffers, a₀, b₀ and c₀ before the call and a, b and c after it
 pub record SplitInto (o : Outcome paper.Down) (a₀ a b₀ b c₀ c : List ℕ) (r : Result Subflows Refusal) : Type 0 where
-  pub answer : down_of r ≡ shown o
+  pub answer : down_of r ≡ in_numbers o
   pub buffer1 : a ≡ flow_after (λ y. y.flow1) o a₀
   pub buffer2 : b ≡ flow_after (λ y. y.flow2) o b₀
   pub buffer3 : c ≡ flow_after (λ y. y.flow3) o c₀

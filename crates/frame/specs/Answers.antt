@@ -42,8 +42,8 @@ abbrev pub outcome_of : {A B : Type 0} → (A → B) → Result A Refusal → Ou
 outcome_of says (Ok x) = ok (says x)
 outcome_of says (Err e) = refused (number_of e)
 
-abbrev pub found_of : Result Format Refusal → Outcome paper.Format
-found_of = outcome_of format_of
+abbrev pub format_found : Result Format Refusal → Outcome paper.Format
+format_found = outcome_of format_of
 
 -- the frame and the count; the core is where the call put or found it, by the frame's type
 abbrev pub reading_of : (ℕ → List Bool) → Result (FrameHeader × ℕ) Refusal → Outcome (paper.Frame × ℕ)

@@ -9,7 +9,7 @@ pub mod table;
 ghost use Rattle.std.specs.Prelude.{◌≡◌, ◌≤◌, cond, leb, IfOk};
 ghost use Rattle.definitions.specs.Outcome.{ok, unless};
 ghost use Rattle.definitions.specs.Reading.{format_numbered};
-ghost use Rattle.frame.specs.Answers.{number_of, found_of, built_of};
+ghost use Rattle.frame.specs.Answers.{number_of, format_found, built_of};
 
 // The highest mode.
 pub const HIGHEST_MODE: u64 = 8;
@@ -65,7 +65,7 @@ pub struct FrameHeader {
 impl TryFrom<u64> for Format {
     type Error = Refusal;
 
-    ghost try_from_gives = { λ n r. found_of r ≡ format_numbered n };
+    ghost try_from_gives = { λ n r. format_found r ≡ format_numbered n };
 
     fn try_from(n: u64) -> Result<Format, Refusal> {
         match n {

@@ -13,14 +13,14 @@ use Rattle.definitions.specs.Frames.{Frame, known, octets, core_bits, core_octet
 use Rattle.definitions.specs.Reading.{read_with, format_numbered, into_buffer, read_call, core_after, buffer_core}
 use Rattle.definitions.proofs.Frames.{read_known}
 use Rattle.frame.specs.Answers.{format_of, number_of, frame_with, reading_of}
-use Rattle.frame_reader.specs.Buffer.{IntoBuffer}
+use Rattle.frame_reader.specs.Buffer.{IntoCore}
 use Rattle.frame.specs.declared.Refusal.{Refusal}
 use Rattle.frame.specs.declared.FrameHeader.{FrameHeader}
 use Rattle.frame.specs.declared.Format.{Format as CodeFormat}
 use Rattle.std.specs.Prelude.{Result, Ok, Err}
 
 -- a refused call leaves the buffer
-pub refused-call : (o : Outcome (Frame × ℕ)) (d : List ℕ) (r : Result (FrameHeader × ℕ) Refusal) (e : Refusal) → r ≡ Err e → refused (number_of e) ≡ o → IntoBuffer o d d r
+pub refused-call : (o : Outcome (Frame × ℕ)) (d : List ℕ) (r : Result (FrameHeader × ℕ) Refusal) (e : Refusal) → r ≡ Err e → refused (number_of e) ≡ o → IntoCore o d d r
 refused-call o d r e er h = record { answer = ap (reading_of (buffer_core d)) er ∙ h; buffer = ap (λ o. core_after o d) h }
 
 -- `core_out`
@@ -29,7 +29,7 @@ module _ (h : FrameHeader) (core : List Bool) (d₀ : List ℕ) (k : ℕ) (ek : 
   size = ap octets_for (sym ek)
 
   pub core-written : (d : List ℕ) → (k + 7) / 8 ≤ length d₀ → length core ≡ k → d ≡ pack core ++ drop (octets_for (0 + k)) d₀
-      → IntoBuffer (into_buffer (frame_with h core) (length d₀)) d₀ d (Ok (h, (k + 7) / 8))
+      → IntoCore (into_buffer (frame_with h core) (length d₀)) d₀ d (Ok (h, (k + 7) / 8))
   core-written d l lc e =
       let x = frame_with h core in
       let b = le-leb (core_octets h.frame_type) (length d₀) (subst (λ m. m ≤ length d₀) (sym size) l) in
@@ -45,7 +45,7 @@ module _ (h : FrameHeader) (core : List Bool) (d₀ : List ℕ) (k : ℕ) (ek : 
 -- `read_frame`
 module _ (format : ℕ) (s d₀ : List ℕ) where
   pub unknown_format : (r : Result (FrameHeader × ℕ) Refusal) (e : Refusal) → r ≡ Err e → refused (number_of e) ≡ format_numbered format
-      → IntoBuffer (read_call format s (length d₀)) d₀ d₀ r
+      → IntoCore (read_call format s (length d₀)) d₀ d₀ r
   unfolding read_call
   unknown_format r e re u =
       refused-call _ d₀ r e re
@@ -58,7 +58,7 @@ module _ (format : ℕ) (s d₀ : List ℕ) where
     call_is = ap (λ o. and_then o (λ f. and_then (read_with true f s) (λ y. into_buffer y.0 (length d₀)))) (sym ef)
 
     pub refused-frame : (r : Result (FrameHeader × ℕ) Refusal) (e : Refusal) → r ≡ Err e → refused (number_of e) ≡ read_with true (format_of f) s
-        → IntoBuffer (read_call format s (length d₀)) d₀ d₀ r
+        → IntoCore (read_call format s (length d₀)) d₀ d₀ r
     refused-frame r e re er =
         refused-call (read_call format s (length d₀)) d₀ r e re (sym (call_is ∙ ap (λ o. and_then o (λ y. into_buffer y.0 (length d₀))) (sym er)))
 
@@ -67,7 +67,7 @@ module _ (format : ℕ) (s d₀ : List ℕ) where
       known-there = let k = read_known true (format_of f) s _ n (sym frame-there) in (k.0, k.1)
 
       pub frame-out : (d : List ℕ) (a : Result (FrameHeader × ℕ) Refusal)
-          → IntoBuffer (into_buffer (frame_with h (core_in (format_of f) h.frame_type (bits s))) (length d₀)) d₀ d a
-          → IntoBuffer (read_call format s (length d₀)) d₀ d a
+          → IntoCore (into_buffer (frame_with h (core_in (format_of f) h.frame_type (bits s))) (length d₀)) d₀ d a
+          → IntoCore (read_call format s (length d₀)) d₀ d a
       frame-out d a p =
-          subst (λ o. IntoBuffer o d₀ d a) (sym (call_is ∙ ap (λ o. and_then o (λ y. into_buffer y.0 (length d₀))) (sym frame-there))) p
+          subst (λ o. IntoCore o d₀ d a) (sym (call_is ∙ ap (λ o. and_then o (λ y. into_buffer y.0 (length d₀))) (sym frame-there))) p

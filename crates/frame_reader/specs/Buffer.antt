@@ -2,7 +2,7 @@
 use Rattle.std.specs.Prelude.{◌≡◌, Bool, true, false, List, ℕ, ◌≤◌, length, drop, Result, Ok, Err}
 use Rattle.bits.specs.Bits.{num, bits}
 use Rattle.definitions.specs.Outcome.{Outcome, refused}
-use Rattle.definitions.specs.Frames.{Format, Frame, known, octets, carries_modes, type_in, core_in, spare_clear}
+use Rattle.definitions.specs.Frames.{Format, highest_mode, sid_type, sid_mode_at, Frame, known, octets, carries_modes, type_in, core_in, spare_clear}
 use Rattle.definitions.specs.Reading.{read_with, core_after, buffer_core}
 use Rattle.frame.specs.Answers.{format_of, number_of, reading_of}
 use Rattle.frame.specs.declared.Refusal.{Refusal}
@@ -11,7 +11,7 @@ use Rattle.frame.specs.declared.FrameHeader.{FrameHeader}
 use Rattle.frame_tests.specs.declared.FrameOctets.{FrameOctets}
 
 -- the buffer is d₀ before the call and d after it
-pub record IntoBuffer (o : Outcome (Frame × ℕ)) (d₀ d : List ℕ) (r : Result (FrameHeader × ℕ) Refusal) : Type 0 where
+pub record IntoCore (o : Outcome (Frame × ℕ)) (d₀ d : List ℕ) (r : Result (FrameHeader × ℕ) Refusal) : Type 0 where
   pub answer : reading_of (buffer_core d) r ≡ o
   pub buffer : d ≡ core_after o d₀
 
@@ -28,4 +28,4 @@ pub record Plain (f : Format) (s : List ℕ) (n : ℕ) : Type 0 where
   pub size : n ≡ octets f (type_in f (bits s))
   pub enough : n ≤ length s
   pub spare : spare_clear f (bits s) ≡ true
-  pub sid : type_in f (bits s) ≡ 9 → num 4 (drop 36 (core_in f (type_in f (bits s)) (bits s))) ≤ 8
+  pub sid : type_in f (bits s) ≡ sid_type → num 4 (drop sid_mode_at (core_in f (type_in f (bits s)) (bits s))) ≤ highest_mode

@@ -6,7 +6,7 @@ ghost use Rattle.std.specs.Prelude.{◌≡◌, true, ◌≤◌, length, IfSome};
 ghost use Rattle.bits.specs.Bits.{bits};
 ghost use Rattle.definitions.specs.Frames.{if1, known, octets, core_in};
 ghost use Rattle.definitions.specs.Reading.{read_with, read_frame, into_buffer, read_call};
-ghost use Rattle.frame_reader.specs.Buffer.{IntoBuffer, Fronts, Plain};
+ghost use Rattle.frame_reader.specs.Buffer.{IntoCore, Fronts, Plain};
 ghost use Rattle.frame.specs.Answers.{format_of, frame_with, reading_of};
 
 use frame::table::{carries_modes, core_bits, header_bits, octets_known};
@@ -119,7 +119,7 @@ pub fn core_out(
     core: &mut [u8],
 ) -> Result<(FrameHeader, usize), Refusal>
     requires { (known h.frame_type ≡ true) × (octets (format_of f) h.frame_type ≤ length s.now) }
-    ensures { IntoBuffer (into_buffer (frame_with h (core_in (format_of f) h.frame_type (bits s.now))) (length core.old)) core.old core.new result }
+    ensures { IntoCore (into_buffer (frame_with h (core_in (format_of f) h.frame_type (bits s.now))) (length core.old)) core.old core.new result }
 {
     let t = usize::from(h.frame_type);
     let k = core_bits(t);
@@ -133,7 +133,7 @@ pub fn core_out(
 
 // Reads one frame: its fields in the answer, with how many octets its packed core takes in the buffer. An entry.
 pub fn read_frame(format: u64, s: &[u8], core: &mut [u8]) -> Result<(FrameHeader, usize), Refusal>
-    ensures { IntoBuffer (read_call format s.now (length core.old)) core.old core.new result }
+    ensures { IntoCore (read_call format s.now (length core.old)) core.old core.new result }
 {
     let f = Format::try_from(format)?;
     let (h, _) = judge(true, f, s)?;

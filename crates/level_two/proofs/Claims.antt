@@ -24,14 +24,14 @@ module _ {a b : ViewAnswer} (e : a ≡ b) where
 pub lent_octets : LentOctets
 lent_octets = record {
   view_refused = λ n k at place d₀ d r p. (
-      p.buffer,
-      refusal p.answer,
-      ap (λ (v : ViewAnswer). v.frame) p.answer,
-      ap (λ (v : ViewAnswer). v.octet) p.answer,
-      number p.answer,
-      offset p.answer,
-      class p.answer,
-    );
+    p.buffer,
+    refusal p.answer,
+    ap (λ (v : ViewAnswer). v.frame) p.answer,
+    ap (λ (v : ViewAnswer). v.octet) p.answer,
+    number p.answer,
+    offset p.answer,
+    class p.answer,
+  );
   view_ended = λ place d₀ d r p. (p.buffer, refusal p.answer, last p.answer, number p.answer, offset p.answer, class p.answer);
   view_shown = λ x m at place d₀ d r p.
       (written _ d₀ d p.buffer, refusal p.answer, last p.answer, number p.answer, offset p.answer, class p.answer);

@@ -6,7 +6,7 @@ use Rattle.links.specs.declared.Link.{Link}
 use Rattle.links.specs.Calls.{Forward, nothing, request, Down, down_after}
 use Rattle.links.specs.History.{Reply, refusal, accepted, frame, subflows}
 use Rattle.downlink_flows.specs.Answers.{Numbers}
-use Rattle.downlink.specs.Answers.{shown, flow_after}
+use Rattle.downlink.specs.Answers.{in_numbers, flow_after}
 use Rattle.link_answers.specs.declared.LinkAnswer.{LinkAnswer}
 use Rattle.link_answers.specs.declared.DownNumbers.{DownNumbers}
 
@@ -58,7 +58,7 @@ down_numbers (ok d) l = record {
 
 -- the answer, and the buffers, a₀, b₀ and c₀ before the call and a, b and c after it
 pub record FlatDown (o : Outcome Down) (l : Link) (a₀ a b₀ b c₀ c : List ℕ) (r : DownNumbers) : Type 0 where
-  pub answer : r ≡ down_numbers (shown o) (down_after o l)
+  pub answer : r ≡ down_numbers (in_numbers o) (down_after o l)
   pub buffer1 : a ≡ flow_after (λ y. y.flow1) o a₀
   pub buffer2 : b ≡ flow_after (λ y. y.flow2) o b₀
   pub buffer3 : c ≡ flow_after (λ y. y.flow3) o c₀

@@ -7,7 +7,7 @@ use borrow.Author.Tests.{eq-eqb, le-leb}
 use Rattle.std.specs.Simd.{first_chunks}
 use Rattle.definitions.specs.Outcome.{refused, ok, unless}
 use Rattle.links.specs.declared.Combination.{Combination}
-use Rattle.links.specs.Sets.{combination, combination_good, apart, all_good, set_good}
+use Rattle.links.specs.Sets.{combination, combination_good, unlike, all_good, set_good}
 use Rattle.links.specs.Calls.{in_fives}
 use Rattle.link_state.specs.Answers.{five, set_of}
 
@@ -31,15 +31,15 @@ in_fives_rows (suc n) (i ∷ t ∷ a ∷ b ∷ []) h = absurd (omega (arith, fiv
 
 -- ---- all good
 
-apart-append : (c : Combination) (ds es : List Combination) → apart c (ds ++ es) ≡ (apart c ds && apart c es)
+apart-append : (c : Combination) (ds es : List Combination) → unlike c (ds ++ es) ≡ (unlike c ds && unlike c es)
 apart-append c [] es = refl
 apart-append c (d ∷ ds) es = let i = apart-append c ds es in grind (arith, nat_tests, i)
 
 -- with one more behind those that are good
-pub all_good-snoc : (cs : List Combination) (c : Combination) → all_good cs ≡ true → all_good (cs ++ c ∷ []) ≡ (combination_good c && apart c cs)
+pub all_good-snoc : (cs : List Combination) (c : Combination) → all_good cs ≡ true → all_good (cs ++ c ∷ []) ≡ (combination_good c && unlike c cs)
 all_good-snoc [] c h = refl
 all_good-snoc (d ∷ cs) c h =
-    let i : all_good cs ≡ true → all_good (cs ++ c ∷ []) ≡ (combination_good c && apart c cs) = all_good-snoc cs c in
+    let i : all_good cs ≡ true → all_good (cs ++ c ∷ []) ≡ (combination_good c && unlike c cs) = all_good-snoc cs c in
     let a = apart-append d cs (c ∷ []) in
     grind (arith, nat_tests, h, i, a)
 
@@ -79,20 +79,20 @@ module _ (rows : List (List ℕ)) (few : length rows ≤ 11) (n : ℕ) (h : n < 
       ∙ ap (λ ds. ds ++ os) (ap (λ d. ds ++ d ∷ []) f ∙ sym more)
 
   module _ (good : all_good (map five (take n rows)) ≡ true) where
-    turn : all_good (map five (take (n + 1) rows)) ≡ (combination_good row && apart row (take n ps))
+    turn : all_good (map five (take (n + 1) rows)) ≡ (combination_good row && unlike row (take n ps))
     turn =
         let ds : List Combination = map five (take n rows) in
         let t = take_at ds (replicate (11 - n) none) n size in
-        ap all_good more ∙ all_good-snoc ds row good ∙ ap (λ cs. combination_good row && apart row cs) (sym (ap (take n) held ∙ t))
+        ap all_good more ∙ all_good-snoc ds row good ∙ ap (λ cs. combination_good row && unlike row cs) (sym (ap (take n) held ∙ t))
 
     pub not_good : refused 11 ≡ unless 11 (combination_good row) (ok row) → all_good (map five (take (n + 1) rows)) ≡ false
     not_good e = let t = turn in grind (arith, nat_tests)
 
     module _ (c : Combination) (e : ok c ≡ unless 11 (combination_good row) (ok row)) where
-      pub not_apart : false ≡ apart c (take n ps) → all_good (map five (take (n + 1) rows)) ≡ false
+      pub not_apart : false ≡ unlike c (take n ps) → all_good (map five (take (n + 1) rows)) ≡ false
       not_apart f = let t = turn in grind (arith, nat_tests)
 
-      pub good_next : true ≡ apart c (take n ps) → all_good (map five (take (n + 1) rows)) ≡ true
+      pub good_next : true ≡ unlike c (take n ps) → all_good (map five (take (n + 1) rows)) ≡ true
       good_next f = let t = turn in grind (arith, nat_tests)
 
 -- ---- what numbers write

@@ -6,16 +6,16 @@ use Rattle.std.proofs.lemmas.Bool.Decides.{nat_tests}
 use borrow.Author.Tests.{leb-true}
 use Rattle.definitions.specs.Frames.{Row, row, type_table, row_in, core_column, core_bits}
 use Rattle.links.specs.declared.Combination.{Combination}
-use Rattle.links.specs.Sets.{apart}
+use Rattle.links.specs.Sets.{unlike}
 
 abbrev pub is_apart : Combination → Combination → Bool
 is_apart c d = not (eqb c.rfci d.rfci) && not (eqb c.frame_type d.frame_type)
 
-pub apart_is_all : (c : Combination) (ds : List Combination) → list_all (is_apart c) ds ≡ apart c ds
+pub apart_is_all : (c : Combination) (ds : List Combination) → list_all (is_apart c) ds ≡ unlike c ds
 apart_is_all c [] = refl
 apart_is_all c (d ∷ ds) =
     elim (eqb c.rfci d.rfci) as (λ z. ((not z && not (eqb c.frame_type d.frame_type)) && list_all (is_apart c) ds)
-    ≡ (not z && (not (eqb c.frame_type d.frame_type) && apart c ds))) [
+    ≡ (not z && (not (eqb c.frame_type d.frame_type) && unlike c ds))) [
       | true ↦ refl
       | false ↦ ap (λ b. not (eqb c.frame_type d.frame_type) && b) (apart_is_all c ds)
     ]

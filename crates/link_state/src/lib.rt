@@ -3,7 +3,7 @@
 
 ghost use Rattle.std.specs.Prelude.{◌≡◌};
 ghost use Rattle.definitions.specs.Outcome.{ok, unless};
-ghost use Rattle.links.specs.Sets.{combination_good, apart};
+ghost use Rattle.links.specs.Sets.{combination_good, unlike};
 ghost use Rattle.links.specs.Calls.{fresh_link};
 ghost use Rattle.links.specs.History as call;
 ghost use Rattle.combinations.specs.Answers.{found_of};
@@ -36,7 +36,7 @@ fn combination_in(row: &[u64; NUMBERS]) -> Option<Combination>
 
 // RFCI and type of `c` are none of those of `others`.
 fn is_apart(c: Combination, others: &[Combination]) -> bool
-    ensures { result ≡ apart c others.now }
+    ensures { result ≡ unlike c others.now }
 {
     others
         .iter()

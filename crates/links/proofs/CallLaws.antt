@@ -24,7 +24,7 @@ use Rattle.recordings.specs.Conversion.{with_modes}
 use Rattle.links.specs.declared.Combination.{Combination}
 use Rattle.links.specs.declared.Link.{Link}
 use Rattle.links.specs.Sets.{set_good, combinations, rfc_set, by_rfci, by_type, lookup}
-use Rattle.links.specs.Calls.{link_by, has_set, in_fives, assign_call, release_call, rate_call, subflow_good, subflows_good, joined, up_frame, no_data_bad, written, up_call, Down, split, roomy, down_frame, down_call}
+use Rattle.links.specs.Calls.{link_by, has_set, in_fives, assign_call, release_call, rate_call, subflow_good, subflows_good, joined, up_frame, no_data_bad, frame_written, up_call, Down, split, roomy, down_frame, down_call}
 use Rattle.links.specs.History.{accepted, frame, subflows, move_reply, up_reply, down_reply}
 use Rattle.links.proofs.SetLaws.{combination-good, lookup-found}
 
@@ -186,8 +186,8 @@ module _ (l : Link) (i : ℕ) (s₁ s₂ s₃ : List ℕ) (room : ℕ) where
       → up_call l 0 i s₁ s₂ s₃ room ≡ ok (layout if1 x)
   unfolding up_call
   up_makes c x h p f g e v m =
-      let w : written x room ≡ ok (layout if1 x) = rw (v, le-leb _ _ m) in
-      rw (h, p, f, g) (ap (λ x. written x room) e ∙ w)
+      let w : frame_written x room ≡ ok (layout if1 x) = rw (v, le-leb _ _ m) in
+      rw (h, p, f, g) (ap (λ x. frame_written x room) e ∙ w)
 
   pub record Made (q : ℕ) (w : List ℕ) : Type 0 where
     pub c : Combination
@@ -199,14 +199,14 @@ module _ (l : Link) (i : ℕ) (s₁ s₂ s₃ : List ℕ) (room : ℕ) where
   pub up_ok : (q : ℕ) (w : List ℕ) → q ≢ 1 → up_call l q i s₁ s₂ s₃ room ≡ ok w → Made q w
   unfolding up_call
   up_ok q w n h =
-      let joins : Combination → Outcome (List ℕ) = λ c. unless 17 (subflows_good c s₁ s₂ s₃) (written (up_frame l.request q c s₁ s₂ s₃) room) in
+      let joins : Combination → Outcome (List ℕ) = λ c. unless 17 (subflows_good c s₁ s₂ s₃) (frame_written (up_frame l.request q c s₁ s₂ s₃) room) in
       let a = unless-ok 11 (leb q 3 && leb i 63) _ w h in
       let b = unless-ok 14 (has_set l) _ w a.1 in
       let e = unless-ok 13 (leb q 2) _ w b.1 in
-      let f = then_ok (lookup by_rfci i (combinations l.set)) (λ c. cond (eqb q 1) (written no_data_bad room) (joins c)) w e.1 in
+      let f = then_ok (lookup by_rfci i (combinations l.set)) (λ c. cond (eqb q 1) (frame_written no_data_bad room) (joins c)) w e.1 in
       let c = f.0 in
       let x = up_frame l.request q c s₁ s₂ s₃ in
-      let g = unless-ok 17 (subflows_good c s₁ s₂ s₃) (written x room) w (sym (ap (λ b. cond b (written no_data_bad room) (joins c)) (ne_eqb q 1 n)) ∙ f.2) in
+      let g = unless-ok 17 (subflows_good c s₁ s₂ s₃) (frame_written x room) w (sym (ap (λ b. cond b (frame_written no_data_bad room) (joins c)) (ne_eqb q 1 n)) ∙ f.2) in
       let v = unless-ok 6 (fields_good if1 x) _ w g.1 in
       record { c = c; found = f.1; subflows = g.0; fields = v.0; answer = cc (unless-ok 10 (leb (octets if1 x.type) room) _ w v.1).1 }
 
@@ -225,7 +225,7 @@ module _ (l : Link) (i : ℕ) (s₁ s₂ s₃ : List ℕ) (room : ℕ) where
   up-bad w h =
       let a = unless-ok 11 (leb i 63) _ w h in
       let b = unless-ok 14 (has_set l) _ w a.1 in
-      let f = then_ok (lookup by_rfci i (combinations l.set)) (λ c. written no_data_bad room) w b.1 in
+      let f = then_ok (lookup by_rfci i (combinations l.set)) (λ c. frame_written no_data_bad room) w b.1 in
       let v = unless-ok 6 (fields_good if1 no_data_bad) _ w f.2 in
       cc (unless-ok 10 (leb (octets if1 15) room) _ w v.1).1
 

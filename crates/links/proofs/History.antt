@@ -16,7 +16,7 @@ use Rattle.definitions.specs.Reading.{read_with}
 use Rattle.recordings.specs.Conversion.{with_modes}
 use Rattle.links.specs.declared.Combination.{Combination}
 use Rattle.links.specs.declared.Link.{Link}
-use Rattle.links.specs.Sets.{all_good, most, set_good, rfc_set}
+use Rattle.links.specs.Sets.{all_good, most_combinations, set_good, rfc_set}
 use Rattle.links.specs.Calls.{no_request, link_by, fresh_link, has_set, in_fives, assign_call, release_call, rate_call, link_after, up_call, Down, down_call, down_after, Forward, nothing, request, recorded}
 use Rattle.links.specs.History.{Call, assign, release, rate, up, down, refusal, accepted, move_reply, up_reply, down_reply, link_step, Said, said_by, after, Replied, all_said, replies, set_said, request_said, forwarded_said, RightLink, Remembers}
 use Rattle.links.specs.UpAndDown.{forwarded_then, last_forwarded, is_last, AnswersByRule}
@@ -31,7 +31,7 @@ forwarded_number (request r) = r
 -- a state with the set of these combinations and these two requests, all right, and the last request that was said to be forwarded
 record Holds (l : Link) (cs : List Combination) (r f : ℕ) (last : Forward) : Type 0 where
   state : l ≡ link_by (rfc_set cs) r f
-  few : length cs ≤ most
+  few : length cs ≤ most_combinations
   good : all_good cs ≡ true
   mode : r ≤ 8
   forwarded : f ≡ forwarded_number last

@@ -15,15 +15,15 @@ use Rattle.definitions.specs.Outcome.{ok}
 use Rattle.definitions.specs.Frames.{known, core_bits}
 use Rattle.definitions.proofs.Frames.{never}
 use Rattle.links.specs.declared.Combination.{Combination}
-use Rattle.links.specs.Sets.{link_type, combination_good, apart, all_good, most, set_good, Key, by_rfci, by_type, has, lookup}
+use Rattle.links.specs.Sets.{link_type, combination_good, unlike, all_good, most_combinations, set_good, Key, by_rfci, by_type, has, lookup}
 
 -- ---- tests, taken apart
 
-pub set-good : (cs : List Combination) → set_good cs ≡ true → (length cs ≤ most) × (all_good cs ≡ true)
+pub set-good : (cs : List Combination) → set_good cs ≡ true → (length cs ≤ most_combinations) × (all_good cs ≡ true)
 unfolding set_good
 set-good cs h =
     let g = and_right (leb 1 (length cs)) _ h in
-    (leb-true _ _ (and_left _ _ g), and_right (leb (length cs) most) _ g)
+    (leb-true _ _ (and_left _ _ g), and_right (leb (length cs) most_combinations) _ g)
 
 pub record Good (c : Combination) : Type 0 where
   pub rfci : leb c.rfci 63 ≡ true
@@ -76,7 +76,7 @@ has-apart by_rfci n d c i t h = ap (eqb d.rfci) (sym (eqb-true _ _ h)) ∙ not-t
 has-apart by_type n d c i t h = ap (eqb d.frame_type) (sym (eqb-true _ _ h)) ∙ not-true _ t
 
 -- one that stands apart has another key than each of the others
-apart-has : (k : Key) (n : ℕ) (d c : Combination) {cs : List Combination} → Memᴰ c cs → apart d cs ≡ true → has k n c ≡ true → has k n d ≡ false
+apart-has : (k : Key) (n : ℕ) (d c : Combination) {cs : List Combination} → Memᴰ c cs → unlike d cs ≡ true → has k n c ≡ true → has k n d ≡ false
 apart-has k n d c (Memᴰ.head {x = x} e) a h =
     has-apart k n d x (and_left _ _ a) (and_left _ _ (and_right (not (eqb d.rfci x.rfci)) _ a)) (ap (has k n) (sym e) ∙ h)
 apart-has k n d c (Memᴰ.tail {x = x} m) a h =
@@ -89,4 +89,4 @@ lookup_member k n c (Memᴰ.head {x = x} {xs = cs} e) g h =
 lookup_member k n c (Memᴰ.tail {x = x} {xs = cs} m) g h =
     let r = and_right (combination_good x) _ g in
     ap (λ b. cond (b && combination_good x) (ok x) (lookup k n cs)) (apart-has k n x c m (and_left _ _ r) h)
-    ∙ lookup_member k n c m (and_right (apart x cs) _ r) h
+    ∙ lookup_member k n c m (and_right (unlike x cs) _ r) h

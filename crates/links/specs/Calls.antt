@@ -2,13 +2,13 @@
 use Rattle.std.specs.Prelude.{Bool, true, not, ◌&&◌, cond, List, [], ◌∷◌, ◌++◌, ℕ, ◌+◌, ◌-◌, ◌*◌, ◌%◌, eqb, leb, length, take, drop}
 use Rattle.bits.specs.Bits.{clear, bits, pack, octets_for}
 use Rattle.definitions.specs.Outcome.{Outcome, refused, ok, unless, and_then}
-use Rattle.definitions.specs.Frames.{if1, Frame, frame_by, octets, layout, fields_good}
+use Rattle.definitions.specs.Frames.{if1, highest_mode, sid_type, no_data_type, Frame, frame_by, octets, layout, fields_good}
 use Rattle.definitions.specs.Reading.{read_with}
 use Rattle.recordings.specs.Conversion.{with_modes}
 use Rattle.links.specs.declared.Combination.{Combination}
 use Rattle.links.specs.declared.RfcSet.{RfcSet}
 use Rattle.links.specs.declared.Link.{Link}
-use Rattle.links.specs.Sets.{combination, set_good, combinations, rfc_set, by_rfci, by_type, lookup}
+use Rattle.links.specs.Sets.{highest_rfci, combination, set_good, combinations, rfc_set, by_rfci, by_type, lookup}
 
 -- ---- the state
 
@@ -51,7 +51,7 @@ release_call l = unless 14 (has_set l) (ok (link_by (rfc_set []) l.request l.for
 
 -- "Rate command 0 to 8: becomes the stored request, with a set or without"
 unfoldable pub rate_call : Link → (mode : ℕ) → Outcome Link
-rate_call l m = unless 11 (leb m 8) (ok (link_by l.set m l.forwarded))
+rate_call l m = unless 11 (leb m highest_mode) (ok (link_by l.set m l.forwarded))
 
 -- the state after one of them; a refused call leaves it
 abbrev pub link_after : Outcome Link → Link → Link
@@ -76,23 +76,23 @@ up_frame r fqc c s₁ s₂ s₃ = with_modes r (frame_by c.frame_type (cond (eqb
 
 -- "1 gives type 15, quality 0"
 abbrev pub no_data_bad : Frame
-no_data_bad = frame_by 15 0 0 0 []
+no_data_bad = frame_by no_data_type 0 0 0 []
 
 -- a frame written into room octets: 6 as in a call that builds a frame, then 10
-abbrev pub written : Frame → (room : ℕ) → Outcome (List ℕ)
-written x room = unless 6 (fields_good if1 x) (unless 10 (leb (octets if1 x.type) room) (ok (layout if1 x)))
+abbrev pub frame_written : Frame → (room : ℕ) → Outcome (List ℕ)
+frame_written x room = unless 6 (fields_good if1 x) (unless 10 (leb (octets if1 x.type) room) (ok (layout if1 x)))
 
 -- 11, 14, 13, 16, 17, 6, 10; with FQC 1 "the sub-flows unread and unjudged, the RFCI still judged"
 unfoldable pub up_call : Link → (fqc rfci : ℕ) → (s₁ s₂ s₃ : List ℕ) → (room : ℕ) → Outcome (List ℕ)
 up_call l fqc rfci s₁ s₂ s₃ room =
-    unless 11 (leb fqc 3 && leb rfci 63)
+    unless 11 (leb fqc 3 && leb rfci highest_rfci)
     (unless 14 (has_set l)
     (unless 13 (leb fqc 2)
     (and_then (lookup by_rfci rfci (combinations l.set))
     (λ c.
-    cond (eqb fqc 1) (written no_data_bad room)
+    cond (eqb fqc 1) (frame_written no_data_bad room)
     (unless 17 (subflows_good c s₁ s₂ s₃)
-    (written (up_frame l.request fqc c s₁ s₂ s₃) room))))))
+    (frame_written (up_frame l.request fqc c s₁ s₂ s₃) room))))))
 
 -- ---- Down: an IF1 frame becomes three sub-flows
 
@@ -111,7 +111,7 @@ pub record Down : Type 0 where
 
 -- "For types 0 to 9 a request unlike the last forwarded one is forwarded"
 abbrev pub forwards : (last : ℕ) → Frame → Bool
-forwards last x = leb x.type 9 && not (eqb x.request last)
+forwards last x = leb x.type sid_type && not (eqb x.request last)
 
 -- "FQC (0 good, 1 bad), its row's RFCI, and the sub-flows"; "sub-flow 3 starts at size 1 + size 2"
 abbrev pub split : Link → Combination → Frame → Down

@@ -1,11 +1,11 @@
 -- What a link keeps over any list of calls (document 01, "The link").
 use Rattle.std.specs.Prelude.{◌≡◌, true, false, cond, ◌↔◌, List, [], ◌∷◌, map, ℕ, ◌%◌, ◌≤◌, leb, length}
 use Rattle.definitions.specs.Outcome.{Outcome, refused, ok}
-use Rattle.definitions.specs.Frames.{if1, Frame}
+use Rattle.definitions.specs.Frames.{if1, highest_mode, sid_type, Frame}
 use Rattle.definitions.specs.Reading.{read_with}
 use Rattle.links.specs.declared.Combination.{Combination}
 use Rattle.links.specs.declared.Link.{Link}
-use Rattle.links.specs.Sets.{all_good, most, set_good, combinations, rfc_set}
+use Rattle.links.specs.Sets.{all_good, most_combinations, set_good, combinations, rfc_set}
 use Rattle.links.specs.Calls.{no_request, link_by, has_set, in_fives, assign_call, release_call, rate_call, link_after, up_call, Down, down_call, down_after}
 
 pub data Call : Type 0 where
@@ -115,7 +115,7 @@ forwarded_said [] = no_request
 forwarded_said (assigned cs ∷ es) = forwarded_said es
 forwarded_said (released ∷ es) = forwarded_said es
 forwarded_said (commanded m ∷ es) = forwarded_said es
-forwarded_said (received t r ∷ es) = cond (leb t 9) r (forwarded_said es)
+forwarded_said (received t r ∷ es) = cond (leb t sid_type) r (forwarded_said es)
 forwarded_said (unsaid ∷ es) = forwarded_said es
 
 abbrev pub link_said : List Said → Link
@@ -125,9 +125,9 @@ link_said es = link_by (rfc_set (set_said es)) (request_said es) (forwarded_said
 
 -- at most 11 combinations, which are good and differ in RFCI and type, and a request that is a mode
 pub record RightLink (l : Link) : Type 0 where
-  pub few : l.set.count ≤ most
+  pub few : l.set.count ≤ most_combinations
   pub good : all_good (combinations l.set) ≡ true
-  pub mode : l.request ≤ 8
+  pub mode : l.request ≤ highest_mode
 
 pub record Remembers (fresh : Link) (step : LinkProgram) : Type 0 where
   -- from a fresh link, after any list of calls, the state is what the accepted ones said, and it is right
@@ -138,4 +138,4 @@ pub record Remembers (fresh : Link) (step : LinkProgram) : Type 0 where
   pub assigns : (l : Link) (ns : List ℕ)
       → ((step l (assign ns)).0 ≡ accepted) ↔ ((length ns % 5 ≡ 0) × (set_good (in_fives ns) ≡ true) × (has_set l ≡ false))
   pub releases : (l : Link) → ((step l release).0 ≡ accepted) ↔ (has_set l ≡ true)
-  pub commands : (l : Link) (m : ℕ) → ((step l (rate m)).0 ≡ accepted) ↔ (m ≤ 8)
+  pub commands : (l : Link) (m : ℕ) → ((step l (rate m)).0 ≡ accepted) ↔ (m ≤ highest_mode)

@@ -2,7 +2,7 @@
 -- visit's link "that keeps its first request: demand 2, by Up and Down").
 use Rattle.std.specs.Prelude.{◌≡◌, Bool, true, false, not, ◌&&◌, cond, List, [], ◌∷◌, ℕ, eqb, leb, length}
 use Rattle.definitions.specs.Outcome.{ok}
-use Rattle.definitions.specs.Frames.{if1, Frame}
+use Rattle.definitions.specs.Frames.{if1, sid_type, Frame}
 use Rattle.definitions.specs.Reading.{read_with}
 use Rattle.recordings.specs.Conversion.{with_modes}
 use Rattle.links.specs.Calls.{Forward, nothing, request, Down}
@@ -28,7 +28,7 @@ is_last (request q) r = eqb r q
 
 -- "For types 0 to 9 a request unlike the last forwarded one is forwarded"
 abbrev pub forwarded_of : (last : Forward) → Frame → Forward
-forwarded_of last x = cond (leb x.type 9 && not (is_last last x.request)) (request x.request) nothing
+forwarded_of last x = cond (leb x.type sid_type && not (is_last last x.request)) (request x.request) nothing
 
 -- ---- the claim, of any link
 

@@ -4,7 +4,7 @@ use Rattle.std.proofs.Common.{◌≡◌, ℕ, zero, suc, ◌+◌, ◌<◌, ◌�
 use mathlib.Core.Bool.{xor, false≢true, and-eq-true_iff}
 use lib.Seq.{drop-nil}
 use Rattle.parity.specs.Crc.{crc}
-use Rattle.parity.specs.Places.{differences, count_true, first_true, last_true, later}
+use Rattle.parity.specs.Places.{differences, count_true, first_true, last_true, suc_if_any}
 use Rattle.parity.specs.Claims.{Detects}
 use Rattle.parity.proofs.Register.{Reg, reg, cells, empty, step, run, sum, run_sum, run_added, run_word, step_empty, false_xor, length-differences}
 
@@ -89,13 +89,13 @@ last_true-drop zero e h = absurd (not-suc-le-zero h)
 last_true-drop (suc k) [] h = refl
 last_true-drop (suc k) (b ∷ e) h = go (last_true-drop k e) (count_true e) refl h
   where
-    go : (last_true e < k → count_true (drop k e) ≡ 0) → (c : ℕ) → count_true e ≡ c → later c (last_true e) < suc k → count_true (drop k e) ≡ 0
+    go : (last_true e < k → count_true (drop k e) ≡ 0) → (c : ℕ) → count_true e ≡ c → suc_if_any c (last_true e) < suc k → count_true (drop k e) ≡ 0
     go ih zero z l = count_true-drop k e z
     go ih (suc c) z l = ih (le_of_suc-le-suc l)
 
 -- ---- a word that leaves the register empty
 
-later-suc : (c k : ℕ) → 0 < c → later c k ≡ suc k
+later-suc : (c k : ℕ) → 0 < c → suc_if_any c k ≡ suc k
 later-suc zero k h = absurd (not-suc-le-zero h)
 later-suc (suc c) k h = refl
 
@@ -171,7 +171,7 @@ unfolding last_true count_true
 at_last [] h = absurd (not-suc-le-zero h)
 at_last (b ∷ e) h = go (at_last e) (count_true e) refl b h
   where
-    go : (0 < count_true e → get_or e (last_true e) false ≡ true) → (c : ℕ) → count_true e ≡ c → (b : Bool) → 0 < count_true (b ∷ e) → get_or (b ∷ e) (later c (last_true e)) false ≡ true
+    go : (0 < count_true e → get_or e (last_true e) false ≡ true) → (c : ℕ) → count_true e ≡ c → (b : Bool) → 0 < count_true (b ∷ e) → get_or (b ∷ e) (suc_if_any c (last_true e)) false ≡ true
     go ih (suc c) z b l = ih (omega arith)
     go ih zero z true l = refl
     go ih zero z false l = absurd (omega arith)

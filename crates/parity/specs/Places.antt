@@ -22,15 +22,15 @@ first_true (true ∷ e) = 0
 first_true (false ∷ e) = suc (first_true e)
 
 -- the place k one further on, if there is one
-abbrev pub later : ℕ → ℕ → ℕ
-later zero k = 0
-later (suc c) k = suc k
+abbrev pub suc_if_any : ℕ → ℕ → ℕ
+suc_if_any zero k = 0
+suc_if_any (suc c) k = suc k
 
 -- the last place that is true (0, where none is)
 unfoldable pub last_true : List Bool → ℕ
 unfolding count_true
 last_true [] = 0
-last_true (b ∷ e) = later (count_true e) (last_true e)
+last_true (b ∷ e) = suc_if_any (count_true e) (last_true e)
 
 -- the places that the CRC guards in a frame, in the order in which demand 3 counts them: the first n bits of the core d, then
 -- CRC(7) to CRC(0) of the octet c

@@ -17,7 +17,7 @@ use Rattle.frame.specs.Answers.{reading_of}
 use Rattle.frame.specs.declared.FrameHeader.{FrameHeader}
 use Rattle.frame.specs.declared.Refusal.{Refusal}
 use Rattle.recordings.specs.Placed.{Placed, refused_at, done, and_then_at}
-use Rattle.recordings.specs.Recordings.{file_header, before, scan, scan_frames, layouts, write_recording}
+use Rattle.recordings.specs.Recordings.{file_header, followed_by, scan, scan_frames, layouts, write_recording}
 use Rattle.recordings.specs.Conversion.{carried, converted}
 use Rattle.recordings.proofs.Scan.{shown-size, scan_step, scan_stop}
 use Rattle.recordings.proofs.Carried.{size-carried}
@@ -43,7 +43,7 @@ total_rest f g r (done xs) =
     ap₂ (λ a b. done (a, b)) (let e : length xs ≡ 0 + length xs = omega arith in e) (length-append (file_header g) (layouts g (map (carried g f r) xs)))
 
 rest_before : (f g : Format) (r k need : ℕ) (x : Frame) (m : ℕ) (w : Placed (List Frame)) → length (layout g (carried g f r x)) ≡ m
-    → rest f g r k need (before x w) ≡ rest f g r (k + 1) (need + m) w
+    → rest f g r k need (followed_by x w) ≡ rest f g r (k + 1) (need + m) w
 rest_before f g r k need x m (refused_at n j p) e = refl
 rest_before f g r k need x m (done xs) e =
     let l = layouts g (map (carried g f r) xs) in

@@ -15,7 +15,7 @@ use Rattle.definitions.specs.Claims.{Valid, Begins}
 use Rattle.definitions.proofs.Tables.{sized}
 use Rattle.definitions.proofs.Frames.{never, length-layout, read-layout, read-begins}
 use Rattle.recordings.specs.Placed.{Placed, refused_at, done, placed}
-use Rattle.recordings.specs.Recordings.{before, scan, layouts}
+use Rattle.recordings.specs.Recordings.{followed_by, scan, layouts}
 use Rattle.recordings.specs.Claims.{Every, none, first}
 
 pub not_done : {A B : Type 0} (n k at : ℕ) (a : A) → refused_at n k at ≡ done a → B
@@ -38,33 +38,33 @@ shown-size f s x n o h =
 
 -- one step
 pub scan_step : (f : Format) (k at : ℕ) (s : List ℕ) (x : Frame) (n : ℕ) → read_frame f s ≡ ok (x, n) → 1 ≤ n
-    → scan f 0 k at s ≡ before x (scan f 0 (suc k) (at + n) (drop n s))
+    → scan f 0 k at s ≡ followed_by x (scan f 0 (suc k) (at + n) (drop n s))
 unfolding read_with
 scan_step f k at [] x n h p = never 1 (x, n) h
 scan_step f k at (o ∷ s) x n h p =
     let e : suc (n - 1) ≡ n = omega arith in
-    ap (λ r. placed r k at (λ y. before y.0 (scan f (y.1 - 1) (suc k) (suc at) s))) h
-    ∙ ap (before x)
+    ap (λ r. placed r k at (λ y. followed_by y.0 (scan f (y.1 - 1) (suc k) (suc at) s))) h
+    ∙ ap (followed_by x)
     (scan_skip f (n - 1) (suc k) (suc at) s ∙ ap₂ (λ a l. scan f 0 (suc k) a l) (omega arith) (ap (λ m. drop m (o ∷ s)) e))
 
 -- the refused frame stops the scan
 pub scan_stop : (f : Format) (k at : ℕ) (s : List ℕ) (n : ℕ) → 1 ≤ length s → read_frame f s ≡ refused n → scan f 0 k at s ≡ refused_at n k at
 scan_stop f k at [] n l h = absurd (omega arith)
-scan_stop f k at (o ∷ s) n l h = ap (λ r. placed r k at (λ y. before y.0 (scan f (y.1 - 1) (suc k) (suc at) s))) h
+scan_stop f k at (o ∷ s) n l h = ap (λ r. placed r k at (λ y. followed_by y.0 (scan f (y.1 - 1) (suc k) (suc at) s))) h
 
 -- ---- what is laid out is shown, whatever stands behind it
 
 abbrev all_before : List Frame → Placed (List Frame) → Placed (List Frame)
 all_before [] w = w
-all_before (x ∷ xs) w = before x (all_before xs w)
+all_before (x ∷ xs) w = followed_by x (all_before xs w)
 
-all-before-done : (xs : List Frame) → all_before xs (done []) ≡ done xs
-all-before-done [] = refl
-all-before-done (x ∷ xs) = ap (before x) (all-before-done xs)
+all-followed-done : (xs : List Frame) → all_before xs (done []) ≡ done xs
+all-followed-done [] = refl
+all-followed-done (x ∷ xs) = ap (followed_by x) (all-followed-done xs)
 
-all-before-refused : (xs : List Frame) (n k at : ℕ) → all_before xs (refused_at n k at) ≡ refused_at n k at
-all-before-refused [] n k at = refl
-all-before-refused (x ∷ xs) n k at = ap (before x) (all-before-refused xs n k at)
+all-followed-refused : (xs : List Frame) (n k at : ℕ) → all_before xs (refused_at n k at) ≡ refused_at n k at
+all-followed-refused [] n k at = refl
+all-followed-refused (x ∷ xs) n k at = ap (followed_by x) (all-followed-refused xs n k at)
 
 layouts_front : (f : Format) (k at : ℕ) (xs : List Frame) (rest : List ℕ) → Every (Valid f) xs
     → scan f 0 k at (layouts f xs ++ rest) ≡ all_before xs (scan f 0 (k + length xs) (at + length (layouts f xs)) rest)
@@ -74,14 +74,14 @@ layouts_front f k at (x ∷ xs) rest (first v vs) =
     ap (scan f 0 k at) (append_assoc (layout f x) (layouts f xs) rest)
     ∙ scan_step f k at (layout f x ++ (layouts f xs ++ rest)) x n
     (read-layout false f x (layouts f xs ++ rest) v refl) (sized f x.type v.type_known).some-octet
-    ∙ ap (λ l. before x (scan f 0 (suc k) (at + n) l)) (drop_at (layout f x) (layouts f xs ++ rest) _ (length-layout f x v))
-    ∙ ap (before x)
+    ∙ ap (λ l. followed_by x (scan f 0 (suc k) (at + n) l)) (drop_at (layout f x) (layouts f xs ++ rest) _ (length-layout f x v))
+    ∙ ap (followed_by x)
     (layouts_front f (suc k) (at + n) xs rest vs
     ∙ ap₂ (λ i p. all_before xs (scan f 0 i p rest)) (omega arith)
     (omega (arith, length-append (layout f x) (layouts f xs), length-layout f x v)))
 
 pub layouts-scan : (f : Format) (k at : ℕ) (xs : List Frame) → Every (Valid f) xs → scan f 0 k at (layouts f xs) ≡ done xs
-layouts-scan f k at xs v = ap (scan f 0 k at) (sym (append-nil (layouts f xs))) ∙ layouts_front f k at xs [] v ∙ all-before-done xs
+layouts-scan f k at xs v = ap (scan f 0 k at) (sym (append-nil (layouts f xs))) ∙ layouts_front f k at xs [] v ∙ all-followed-done xs
 
 -- where valid frames come first and the frame reader refuses what is left
 pub layouts-stop : (f : Format) (k at : ℕ) (xs : List Frame) (rest : List ℕ) (n : ℕ) → Every (Valid f) xs → 1 ≤ length rest
@@ -89,17 +89,17 @@ pub layouts-stop : (f : Format) (k at : ℕ) (xs : List Frame) (rest : List ℕ)
 layouts-stop f k at xs rest n v l h =
     let j = k + length xs in
     let p = at + length (layouts f xs) in
-    layouts_front f k at xs rest v ∙ ap (all_before xs) (scan_stop f j p rest n l h) ∙ all-before-refused xs n j p
+    layouts_front f k at xs rest v ∙ ap (all_before xs) (scan_stop f j p rest n l h) ∙ all-followed-refused xs n j p
 
 -- ---- what is shown was laid out
 
-before-done : (x : Frame) (w : Placed (List Frame)) (xs : List Frame) → before x w ≡ done xs → (ys : List Frame) × (w ≡ done ys) × (x ∷ ys ≡ xs)
-before-done x (refused_at n k at) xs h = not_done n k at xs h
-before-done x (done ys) xs h = (ys, refl, cc)
+followed-done : (x : Frame) (w : Placed (List Frame)) (xs : List Frame) → followed_by x w ≡ done xs → (ys : List Frame) × (w ≡ done ys) × (x ∷ ys ≡ xs)
+followed-done x (refused_at n k at) xs h = not_done n k at xs h
+followed-done x (done ys) xs h = (ys, refl, cc)
 
-before-refused : (x : Frame) (w : Placed (List Frame)) (n k at : ℕ) → before x w ≡ refused_at n k at → w ≡ refused_at n k at
-before-refused x (refused_at n' k' at') n k at h = h
-before-refused x (done ys) n k at h = not_refused n k at (x ∷ ys) h
+followed-refused : (x : Frame) (w : Placed (List Frame)) (n k at : ℕ) → followed_by x w ≡ refused_at n k at → w ≡ refused_at n k at
+followed-refused x (refused_at n' k' at') n k at h = h
+followed-refused x (done ys) n k at h = not_refused n k at (x ∷ ys) h
 
 pub record Shown (f : Format) (s : List ℕ) (xs : List Frame) : Type 0 where
   pub valid : Every (Valid f) xs
@@ -125,11 +125,11 @@ scan-layouts f (suc skip) k at (o ∷ s) xs g h = scan-layouts f skip k (suc at)
 scan-layouts f zero k at (o ∷ s) xs g h = go (read_frame f (o ∷ s)) refl h (λ skip ys e. scan-layouts f skip (suc k) (suc at) s ys (λ i. g (suc i)) e)
   where
     go : (r : Outcome (Frame × ℕ)) → read_frame f (o ∷ s) ≡ r
-        → placed r k at (λ y. before y.0 (scan f (y.1 - 1) (suc k) (suc at) s)) ≡ done xs
+        → placed r k at (λ y. followed_by y.0 (scan f (y.1 - 1) (suc k) (suc at) s)) ≡ done xs
         → ((skip : ℕ) (ys : List Frame) → scan f skip (suc k) (suc at) s ≡ done ys → Shown f (drop skip s) ys) → Shown f (o ∷ s) xs
     go (refused n) e w ih = not_done n k at xs w
     go (ok y) e w ih =
-        let b = before-done y.0 (scan f (y.1 - 1) (suc k) (suc at) s) xs w in
+        let b = followed-done y.0 (scan f (y.1 - 1) (suc k) (suc at) s) xs w in
         let i = ih (y.1 - 1) b.0 b.1 in
         subst (Shown f (o ∷ s)) b.2 (record {
           valid = first (front f o s g y.0 y.1 e).valid i.valid;
@@ -158,7 +158,7 @@ scan-stops f zero k at (o ∷ s) n j p g h =
     go (read_frame f (o ∷ s)) refl h (λ skip e. scan-stops f skip (suc k) (suc at) s n j p (λ i. g (suc i)) e)
   where
     go : (r : Outcome (Frame × ℕ)) → read_frame f (o ∷ s) ≡ r
-        → placed r k at (λ y. before y.0 (scan f (y.1 - 1) (suc k) (suc at) s)) ≡ refused_at n j p
+        → placed r k at (λ y. followed_by y.0 (scan f (y.1 - 1) (suc k) (suc at) s)) ≡ refused_at n j p
         → ((skip : ℕ) → scan f skip (suc k) (suc at) s ≡ refused_at n j p → Stopped f (suc k) (suc at + skip) (drop skip s) n j p)
         → Stopped f k (at + 0) (o ∷ s) n j p
     go (refused m) e w ih = record {
@@ -174,7 +174,7 @@ scan-stops f zero k at (o ∷ s) n j p g h =
     go (ok y) e w ih =
         let x = y.0 in
         let m = y.1 in
-        let b = before-refused x (scan f (m - 1) (suc k) (suc at) s) n j p w in
+        let b = followed-refused x (scan f (m - 1) (suc k) (suc at) s) n j p w in
         let i = ih (m - 1) b in
         let v = front f o s g x m e in
         record {

@@ -31,14 +31,14 @@ conversion f g r s =
     and_then_at (read_recording f s) (λ xs. unless_at 9 (leb (length (converted f g r xs)) limit) (done (length xs, converted f g r xs)))
 
 -- two formats and a request by their numbers, 11 judged first
-abbrev pub judged : {A : Type 0} → (from to request : ℕ) → (Format → Format → Placed A) → Placed A
-judged from to request next =
+abbrev pub arguments_judged : {A : Type 0} → (from to request : ℕ) → (Format → Format → Placed A) → Placed A
+arguments_judged from to request next =
     placed (format_numbered from) 0 0 (λ f. placed (format_numbered to) 0 0 (λ g. unless_at 11 (leb request highest_mode) (next f g)))
 
 -- a call that converts a recording into a buffer of room octets: 11, then what `conversion` judges, then 10
 unfoldable pub convert_call : (from to request : ℕ) → List ℕ → (room : ℕ) → Placed (ℕ × List ℕ)
 convert_call from to request s room =
-    judged from to request (λ f g. and_then_at (conversion f g request s) (λ y. unless_at 10 (leb (length y.1) room) (done y)))
+    arguments_judged from to request (λ f g. and_then_at (conversion f g request s) (λ y. unless_at 10 (leb (length y.1) room) (done y)))
 
 -- frames read and how many octets: the answer of a call that writes, or would write, the octets
 abbrev pub counted_at : Placed (ℕ × List ℕ) → Placed (ℕ × ℕ)
@@ -47,7 +47,7 @@ counted_at (done y) = done (y.0, length y.1)
 
 -- a call that answers how many octets a conversion would write
 unfoldable pub length_call : (from to request : ℕ) → List ℕ → Placed (ℕ × ℕ)
-length_call from to request s = judged from to request (λ f g. counted_at (conversion f g request s))
+length_call from to request s = arguments_judged from to request (λ f g. counted_at (conversion f g request s))
 
 -- the output buffer after a conversion; a refused call leaves it
 abbrev pub buffer_after : Placed (ℕ × List ℕ) → List ℕ → List ℕ

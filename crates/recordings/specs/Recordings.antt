@@ -24,15 +24,15 @@ same_octets (x ∷ a) (y ∷ b) = eqb x y && same_octets a b
 abbrev pub headed : Format → List ℕ → Bool
 headed f s = same_octets (take (length (file_header f)) s) (file_header f)
 
-abbrev pub before : Frame → Placed (List Frame) → Placed (List Frame)
-before x (refused_at n k at) = refused_at n k at
-before x (done xs) = done (x ∷ xs)
+abbrev pub followed_by : Frame → Placed (List Frame) → Placed (List Frame)
+followed_by x (refused_at n k at) = refused_at n k at
+followed_by x (done xs) = done (x ∷ xs)
 
 -- the frames in the octets: the next one has number k and begins at octet at. `skip` octets of the frame before are still to pass. "The
 -- walk stops at the first refused frame"
 abbrev pub scan : Format → (skip k at : ℕ) → List ℕ → Placed (List Frame)
 scan f skip k at [] = done []
-scan f zero k at (o ∷ s) = placed (read_frame f (o ∷ s)) k at (λ y. before y.0 (scan f (y.1 - 1) (suc k) (suc at) s))
+scan f zero k at (o ∷ s) = placed (read_frame f (o ∷ s)) k at (λ y. followed_by y.0 (scan f (y.1 - 1) (suc k) (suc at) s))
 scan f (suc skip) k at (o ∷ s) = scan f skip k (suc at) s
 
 -- behind the file header

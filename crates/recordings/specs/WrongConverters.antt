@@ -3,7 +3,7 @@ use Rattle.std.specs.Prelude.{Bool, not, List, [], ◌∷◌, map, ℕ, suc, ◌
 use Rattle.definitions.specs.Frames.{Frame, frame_by}
 use Rattle.recordings.specs.Placed.{done, unless_at, and_then_at}
 use Rattle.recordings.specs.Recordings.{limit, read_recording, write_recording}
-use Rattle.recordings.specs.Conversion.{carried, judged, convert_call}
+use Rattle.recordings.specs.Conversion.{carried, arguments_judged, convert_call}
 use Rattle.recordings.specs.ConversionClaims.{Converter}
 
 -- ---- other frames
@@ -11,7 +11,7 @@ use Rattle.recordings.specs.ConversionClaims.{Converter}
 -- the call that counts the frames as a conversion does, and writes those which `change` makes of them
 abbrev pub converting_as : (change : List Frame → List Frame) → Converter
 converting_as change from to request s room =
-    judged from to request
+    arguments_judged from to request
     (λ f g.
     and_then_at (read_recording f s)
     (λ xs.

@@ -16,7 +16,7 @@ use Rattle.definitions.specs.Reading.{read_frame}
 use Rattle.definitions.specs.Reception.{Reception, SidClass, sid, sid_class, class_of, frame_class}
 use Rattle.definitions.proofs.Frames.{read_known}
 use Rattle.recordings.specs.Placed.{Placed, refused_at, done, and_then_at}
-use Rattle.recordings.specs.Recordings.{before, scan, scan_frames}
+use Rattle.recordings.specs.Recordings.{followed_by, scan, scan_frames}
 use Rattle.recordings.specs.Report.{Report, is_speech, is_sid, is_speech_lost, is_no_data, how_many, report_of}
 use Rattle.recordings.proofs.Scan.{shown-size, scan_step, scan_stop}
 use Rattle.report.specs.Counting.{one_more, AtMost}
@@ -70,7 +70,7 @@ counts n f a b c d = record { octets = n; frames = f; speech = a; sid = b; speec
 pub same_counts : (n : ℕ) {f g a a' b b' c c' d d' : ℕ} → f ≡ g → a ≡ a' → b ≡ b' → c ≡ c' → d ≡ d' → counts n f a b c d ≡ counts n g a' b' c' d'
 same_counts n p q r s t = cc
 
-rest_before : (r : Report) (x : Frame) (w : Placed (List Frame)) → rest r (before x w) ≡ rest (one_more r (frame_class x)) w
+rest_before : (r : Report) (x : Frame) (w : Placed (List Frame)) → rest r (followed_by x w) ≡ rest (one_more r (frame_class x)) w
 rest_before r x (refused_at m k at) = refl
 rest_before r x (done xs) =
     ap done (same_counts r.octets (omega arith) (omega arith) (omega arith) (omega arith) (omega arith))

@@ -6,8 +6,8 @@ use Rattle.recording_reader.specs.Answers.{placed_of}
 use Rattle.recording_reader.specs.declared.RefusedAt.{RefusedAt}
 use Rattle.report.specs.declared.Report.{Report}
 
-abbrev pub counts_of : Report → paper.Report
-counts_of r = record {
+abbrev pub report_counts : Report → paper.Report
+report_counts r = record {
   octets = r.octets;
   frames = r.frames;
   speech = r.speech;
@@ -17,4 +17,4 @@ counts_of r = record {
 }
 
 abbrev pub reported_of : Result Report RefusedAt → Placed paper.Report
-reported_of = placed_of counts_of
+reported_of = placed_of report_counts

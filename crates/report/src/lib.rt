@@ -9,7 +9,7 @@ ghost use Rattle.recordings.specs.Placed.{done, and_then_at};
 ghost use Rattle.recordings.specs.Recordings.{scan_frames};
 ghost use Rattle.recordings.specs.Report.{report_limit, report_of, report_call};
 ghost use Rattle.reception.specs.Classes.{reception_of};
-ghost use Rattle.report.specs.Answers.{counts_of, reported_of};
+ghost use Rattle.report.specs.Answers.{report_counts, reported_of};
 ghost use Rattle.report.specs.Counting.{one_more, AtMost};
 
 use frame::Format;
@@ -36,8 +36,8 @@ pub type Reported = Result<Report, RefusedAt>;
 impl Report {
     // One frame more.
     fn count(&mut self, class: Reception)
-        requires { AtMost 65535 (counts_of self.old) }
-        ensures { counts_of self.new ≡ one_more (counts_of self.old) (reception_of class) }
+        requires { AtMost 65535 (report_counts self.old) }
+        ensures { report_counts self.new ≡ one_more (report_counts self.old) (reception_of class) }
     {
         self.frames += 1;
         match class {

@@ -1,6 +1,6 @@
 -- What a round trip by two conversions promises (document 01, "A trip in demand 3 is two conversions with one r").
 use Rattle.std.specs.Prelude.{◌≡◌, ◌↔◌, ◌≢◌, List, ℕ, ◌≤◌, length, Result}
-use Rattle.definitions.specs.Frames.{Format, Frame}
+use Rattle.definitions.specs.Frames.{Format, highest_mode, Frame}
 use Rattle.definitions.specs.Reading.{format_number, overwritten}
 use Rattle.recordings.specs.Placed.{Placed, refused_at, done, and_then_at}
 use Rattle.recordings.specs.Recordings.{limit}
@@ -35,9 +35,9 @@ pub record MakesTrip (from to request : ℕ) (s mid₀ mid out₀ out : List ℕ
   pub middle : mid ≡ buffer_after (convert_call from to request s (length mid₀)) mid₀
   pub output : out ≡ buffer_after (back_call from to request s (length mid₀) (length out₀)) out₀
   -- demand 3, of a valid recording, where what the first would write is within the limit and each call is lent what it needs
-  pub returns : (f g : Format) → f ≢ g → from ≡ format_number f → to ≡ format_number g → request ≤ 8 → (xs : List Frame) → ValidRecording f s xs
+  pub returns : (f g : Format) → f ≢ g → from ≡ format_number f → to ≡ format_number g → request ≤ highest_mode → (xs : List Frame) → ValidRecording f s xs
       → length (converted f g request xs) ≤ limit → length (converted f g request xs) ≤ length mid₀ → length s ≤ length out₀
       → Returned f request s xs out₀ out a
   -- a valid recording is refused on these conditions, "neither by anything else"
-  pub refusals : (f g : Format) → f ≢ g → from ≡ format_number f → to ≡ format_number g → request ≤ 8 → (xs : List Frame) → ValidRecording f s xs
+  pub refusals : (f g : Format) → f ≢ g → from ≡ format_number f → to ≡ format_number g → request ≤ highest_mode → (xs : List Frame) → ValidRecording f s xs
       → (n k at : ℕ) → (counts_of a ≡ refused_at n k at) ↔ TripRefusal (length (converted f g request xs)) (length mid₀) (length s) (length out₀) n k at

@@ -26,7 +26,7 @@ use Rattle.frame_builder.specs.Output.{IntoOutput}
 use Rattle.frame_builder.proofs.BuilderLaws.{modes_fit}
 use Rattle.links.specs.declared.Combination.{Combination}
 use Rattle.links.specs.declared.Link.{Link}
-use Rattle.links.specs.Calls.{joined, up_frame, written, up_call}
+use Rattle.links.specs.Calls.{joined, up_frame, frame_written, up_call}
 use Rattle.links.proofs.SetLaws.{combination-good}
 use Rattle.uplink_judge.specs.Judging.{writes, HasCore, Judges}
 use Rattle.uplink_judge.proofs.JudgeLaws.{there₁, there₂, there₃, length-joined}
@@ -88,7 +88,7 @@ judged_last true false x n = refl
 judged_last false b₂ x n = refl
 
 pub build-written : (t q i r : ℕ) (core : List Bool) (room : ℕ) → known t ≡ true → q ≤ 1 → length core ≡ core_bits t
-    → build_frame if1 t q i r (pack core) room ≡ written (frame_by t q i r core) room
+    → build_frame if1 t q i r (pack core) room ≡ frame_written (frame_by t q i r core) room
 unfolding build_check
 build-written t q i r core room k hq size =
     let x : Frame = frame_by t q i r core in
@@ -101,7 +101,7 @@ build-written t q i r core room k hq size =
     rw (same, ht, le-leb q 1 hq, k, l, z, judged_last)
 
 -- no octets are the packed core of no bits
-build-empty : (q room : ℕ) → q < 2 → build_frame if1 15 q 0 0 [] room ≡ written (frame_by 15 q 0 0 []) room
+build-empty : (q room : ℕ) → q < 2 → build_frame if1 15 q 0 0 [] room ≡ frame_written (frame_by 15 q 0 0 []) room
 unfolding known core_bits pack packs
 build-empty q room hq = build-written 15 q 0 0 [] room refl (omega arith) refl
 
@@ -114,17 +114,17 @@ pub into_same : (o p : Outcome (List ℕ)) (d₀ d : List ℕ) (r : Result ℕ R
 into_same o p d₀ d r e h = subst (λ o. IntoOutput o d₀ d r) e h
 
 -- a frame that is written
-pub written-refused : (x : Frame) (room : ℕ) → fields_good if1 x ≡ false → written x room ≡ refused 6
+pub written-refused : (x : Frame) (room : ℕ) → fields_good if1 x ≡ false → frame_written x room ≡ refused 6
 written-refused x room w = rw w
 
-pub written_short : (x : Frame) (room n : ℕ) → fields_good if1 x ≡ true → n ≡ octets if1 x.type → room < n → written x room ≡ refused 10
+pub written_short : (x : Frame) (room n : ℕ) → fields_good if1 x ≡ true → n ≡ octets if1 x.type → room < n → frame_written x room ≡ refused 10
 written_short x room n g e h = rw (g, ← e, lt-leb n room h)
 
-written-whole : (x : Frame) (room n : ℕ) → fields_good if1 x ≡ true → n ≡ octets if1 x.type → n ≤ room → written x room ≡ ok (layout if1 x)
+written-whole : (x : Frame) (room n : ℕ) → fields_good if1 x ≡ true → n ≡ octets if1 x.type → n ≤ room → frame_written x room ≡ ok (layout if1 x)
 written-whole x room n g e h = rw (g, ← e, le-leb n room h)
 
 pub written_into : (x : Frame) (d₀ d : List ℕ) (n : ℕ) → fields_good if1 x ≡ true → known x.type ≡ true → length x.core ≡ core_bits x.type
-    → n ≡ octets if1 x.type → n ≤ length d₀ → d ≡ layout if1 x ++ drop (octets if1 x.type) d₀ → IntoOutput (written x (length d₀)) d₀ d (Ok n)
+    → n ≡ octets if1 x.type → n ≤ length d₀ → d ≡ layout if1 x ++ drop (octets if1 x.type) d₀ → IntoOutput (frame_written x (length d₀)) d₀ d (Ok n)
 written_into x d₀ d n g k size e h put =
     let o = written-whole x (length d₀) n g e h in
     let l = size-layout if1 x k size in
@@ -188,5 +188,5 @@ module _ (request fqc : ℕ) {c : Combination} {s₁ s₂ s₃ : List ℕ} (h : 
 pub none-built : (l : Link) (n rfci : ℕ) (s₁ s₂ s₃ : List ℕ) (room p q : ℕ) → p ≡ q → (q ≡ cond (eqb n 0) 1 0) × (q < 2)
     → (j : Result (Option Combination) Refusal) → j ≡ Ok None → Judges l n rfci s₁ s₂ s₃ j → build_frame if1 15 p 0 0 [] room ≡ up_call l n rfci s₁ s₂ s₃ room
 none-built l n rfci s₁ s₂ s₃ room p q same of j none judged =
-    ap (λ p. build_frame if1 15 p 0 0 [] room) same ∙ build-empty q room of.1 ∙ ap (λ q. written (frame_by 15 q 0 0 []) room) of.0
+    ap (λ p. build_frame if1 15 p 0 0 [] room) same ∙ build-empty q room of.1 ∙ ap (λ q. frame_written (frame_by 15 q 0 0 []) room) of.0
     ∙ sym (ap (λ j. writes l.request n s₁ s₂ s₃ j room) none) ∙ judged.call room

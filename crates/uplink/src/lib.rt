@@ -3,7 +3,7 @@
 
 ghost use Rattle.std.specs.Prelude.{◌≡◌, Bool, List, ◌++◌, ℕ, ◌+◌, ◌*◌, ◌^◌, ◌<◌, ◌≤◌, length, take, drop};
 ghost use Rattle.bits.specs.Bits.{bits, pack, octets_for};
-ghost use Rattle.links.specs.Calls.{joined, up_frame, written, up_call};
+ghost use Rattle.links.specs.Calls.{joined, up_frame, frame_written, up_call};
 ghost use Rattle.uplink_judge.specs.Judging.{HasCore};
 ghost use Rattle.frame_builder.specs.Output.{IntoOutput};
 ghost use Rattle.uplink.specs.Subflows.{Joinable};
@@ -50,7 +50,7 @@ fn build_joined(
     out: &mut [u8],
 ) -> Result<usize, Refusal>
     requires { HasCore c s.s1.now s.s2.now s.s3.now }
-    ensures { IntoOutput (written (up_frame request fqc c s.entry.s1.now s.entry.s2.now s.entry.s3.now) (length out.old)) out.old out.new result }
+    ensures { IntoOutput (frame_written (up_frame request fqc c s.entry.s1.now s.entry.s2.now s.entry.s3.now) (length out.old)) out.old out.new result }
 {
     let mut core = [0u8; CORE_MOST];
     join(c, s, &mut core);

@@ -28,7 +28,7 @@ use Rattle.links.specs.contracts.Fqc.{the_type}
 use Rattle.links.specs.declared.Link.{Link}
 use Rattle.links.specs.Answers.{fqc_number, numbered_of}
 use Rattle.links.specs.Sets.{link_type, combination_good, combinations, by_rfci, lookup}
-use Rattle.links.specs.Calls.{subflow_good, subflows_good, joined, up_frame, no_data_bad, written, up_call}
+use Rattle.links.specs.Calls.{subflow_good, subflows_good, joined, up_frame, no_data_bad, frame_written, up_call}
 use Rattle.links.proofs.SetLaws.{combination-good, lookup-found}
 use Rattle.uplink_judge.specs.Judging.{picked, HasCore, Judges}
 
@@ -105,8 +105,8 @@ bad_test Reserved = refl
 
 -- the call, by what was picked
 up-picked : (l : Link) (fqc rfci : ℕ) (s₁ s₂ s₃ : List ℕ) (room : ℕ)
-    → up_call l fqc rfci s₁ s₂ s₃ room ≡ and_then (picked l fqc rfci) (λ c. cond (eqb fqc 1) (written no_data_bad room)
-    (unless 17 (subflows_good c s₁ s₂ s₃) (written (up_frame l.request fqc c s₁ s₂ s₃) room)))
+    → up_call l fqc rfci s₁ s₂ s₃ room ≡ and_then (picked l fqc rfci) (λ c. cond (eqb fqc 1) (frame_written no_data_bad room)
+    (unless 17 (subflows_good c s₁ s₂ s₃) (frame_written (up_frame l.request fqc c s₁ s₂ s₃) room)))
 unfolding up_call picked
 up-picked l fqc rfci s₁ s₂ s₃ room =
     through (leb fqc 3 && leb rfci 63) (leb 1 l.set.count) (leb fqc 2) (lookup by_rfci rfci (combinations l.set)) _
@@ -143,7 +143,7 @@ module _ (l : Link) (fqc rfci : ℕ) (s₁ s₂ s₃ : List ℕ) where
         judges-empty : 9 < c.frame_type → Judges l fqc rfci s₁ s₂ s₃ (Ok None)
         judges-empty t = record {
           call = λ room.
-              ap (λ x. written x room) (frame-empty c s₁ s₂ s₃ (picked-good l fqc rfci c (sym h)) t w l.request fqc)
+              ap (λ x. frame_written x room) (frame-empty c s₁ s₂ s₃ (picked-good l fqc rfci c (sym h)) t w l.request fqc)
               ∙ sym (up-picked l fqc rfci s₁ s₂ s₃ room ∙ rw (← h, n, w));
           core = λ c z. absurd cc;
         }

@@ -21,10 +21,10 @@ use Rattle.recordings.proofs.ViewCalls.{next_frame, next_shown}
 use Rattle.frame.specs.Answers.{number_of, frame_with, reading_of}
 use Rattle.frame.specs.declared.FrameHeader.{FrameHeader}
 use Rattle.frame.specs.declared.Refusal.{Refusal}
-use Rattle.frame_reader.specs.Buffer.{IntoBuffer}
+use Rattle.frame_reader.specs.Buffer.{IntoCore}
 use Rattle.recording_reader.specs.Answers.{outside}
 use Rattle.recording_reader.specs.declared.RefusedAt.{RefusedAt}
-use Rattle.viewer.specs.Answers.{Shown, view_of, place_after, core_if, core_at, Views, Nexts, ViewsInto}
+use Rattle.viewer.specs.Answers.{Shown, view_of, place_after, core_if, core_in_recording, Views, Nexts, ViewsInto}
 use Rattle.viewer.specs.declared.Place.{Place}
 
 -- an answer has the place for the call behind it
@@ -62,7 +62,7 @@ module _ (s : List ℕ) (offset : ℕ) (f : Format) (x : FrameHeader) (m : ℕ)
 
 -- the end and a refusal are handed on
 module _ (format offset number : ℕ) (s d : List ℕ) where
-  handed_on : (a : Result Shown RefusedAt) → Nexts format offset number s a → (w : Placed View) → view_of (core_at format offset s) a ≡ w
+  handed_on : (a : Result Shown RefusedAt) → Nexts format offset number s a → (w : Placed View) → view_of (core_in_recording format offset s) a ≡ w
       → view_of (buffer_core d) a ≡ w → and_then_at w (into_room (length d)) ≡ w → view_after w d ≡ d
       → ViewsInto (view_call format offset number s (length d)) (number, offset) d d a
   unfolding view_call
@@ -112,9 +112,9 @@ module _ (format offset number : ℕ) (s : List ℕ) (x : FrameHeader) (p : Plac
   view_is room = ap (λ o. and_then_at o (into_room room)) shown-frame
 
   module _ (d₀ d : List ℕ) (r : Result (FrameHeader × ℕ) Refusal)
-      (part : IntoBuffer (into_buffer (frame_with x (core_in f x.frame_type (bits (take (length s - offset) (drop offset s))))) (length d₀)) d₀ d r) where
-    put : IntoBuffer (into_buffer y (length d₀)) d₀ d r
-    put = subst (λ l. IntoBuffer (into_buffer (frame_with x (core_in f x.frame_type (bits l))) (length d₀)) d₀ d r) part_is part
+      (part : IntoCore (into_buffer (frame_with x (core_in f x.frame_type (bits (take (length s - offset) (drop offset s))))) (length d₀)) d₀ d r) where
+    put : IntoCore (into_buffer y (length d₀)) d₀ d r
+    put = subst (λ l. IntoCore (into_buffer (frame_with x (core_in f x.frame_type (bits l))) (length d₀)) d₀ d r) part_is part
 
     pub no_room : (e : Refusal) → r ≡ Err e → ViewsInto (view_call format offset number s (length d₀)) (number, offset) d₀ d (Err (outside e))
     no_room e er =

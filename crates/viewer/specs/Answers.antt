@@ -42,8 +42,8 @@ abbrev pub core_if : Outcome Format → (offset : ℕ) → List ℕ → ℕ → 
 core_if (refused n) offset s t = []
 core_if (ok f) offset s t = core_in f t (bits (drop offset s))
 
-abbrev pub core_at : (format offset : ℕ) → List ℕ → ℕ → List Bool
-core_at format offset s t = core_if (format_numbered format) offset s t
+abbrev pub core_in_recording : (format offset : ℕ) → List ℕ → ℕ → List Bool
+core_in_recording format offset s t = core_if (format_numbered format) offset s t
 
 -- a is the answer o of a call from a number and an offset, and has the number and the offset for the call behind it
 pub record Views (core : ℕ → List Bool) (o : Placed View) (place : ℕ × ℕ) (a : Result Shown RefusedAt) : Type 0 where
@@ -52,7 +52,7 @@ pub record Views (core : ℕ → List Bool) (o : Placed View) (place : ℕ × �
 
 -- a is the answer of `next_call`, with the core where the frame stands in the recording
 abbrev pub Nexts : (format offset number : ℕ) → List ℕ → Result Shown RefusedAt → Type 0
-Nexts format offset number s a = Views (core_at format offset s) (next_call format offset number s) (number, offset) a
+Nexts format offset number s a = Views (core_in_recording format offset s) (next_call format offset number s) (number, offset) a
 
 -- a is the answer o of a call that puts the core into a buffer, which is d₀ before the call and d after it
 pub record ViewsInto (o : Placed View) (place : ℕ × ℕ) (d₀ d : List ℕ) (a : Result Shown RefusedAt) : Type 0 where

@@ -14,7 +14,7 @@ use Rattle.definitions.specs.Reception.{class_of}
 use Rattle.frame.specs.Answers.{number_of, frame_with, reading_of}
 use Rattle.frame.specs.declared.Refusal.{Refusal}
 use Rattle.recording_reader.proofs.ScanLaws.{part_read}
-use Rattle.report.specs.Answers.{counts_of, reported_of}
+use Rattle.report.specs.Answers.{report_counts, reported_of}
 use Rattle.report.specs.Counting.{one_more}
 use Rattle.report.proofs.CountingLaws.{Counted, counted_step, counted_stop}
 use Rattle.report.proofs.count_frames.Goals.{In_ok-h, After-count, After-from_residual}
@@ -32,14 +32,14 @@ read_there c =
     sym (part_read storage s at c.read_next.result c.read_next.ensures) ∙ ap (reading_of (λ t. core_in storage t (bits (drop at s)))) is
 
 -- it is counted
-step_there : (c : After-count) → (1 ≤ c.in_ok-h.n) × Counted c.args.s.now (c.loop-at.at + c.in_ok-h.n) (counts_of c.count.new.self)
+step_there : (c : After-count) → (1 ≤ c.in_ok-h.n) × Counted c.args.s.now (c.loop-at.at + c.in_ok-h.n) (report_counts c.count.new.self)
 step_there c =
     let l = c.loop-at in
     let h = c.in_ok-h.h in
     let t : c.from.result ≡ h.frame_type = search rules in
-    counted_step c.args.s.now l.at (counts_of l.report) (frame_read (goal.at.loop-at-preserved c).In_ok-h) _ false (counts_of c.count.new.self) (λ i. (c.type_inv.s i).fits)
+    counted_step c.args.s.now l.at (report_counts l.report) (frame_read (goal.at.loop-at-preserved c).In_ok-h) _ false (report_counts c.count.new.self) (λ i. (c.type_inv.s i).fits)
     (read_there (goal.at.loop-at-preserved c).In_ok-h)
-    (c.count.ensures ∙ ap (one_more (counts_of l.report)) (c.class_of.ensures ∙ ap (λ t. class_of t (eqb h.quality 1) false) t)) l.invariant
+    (c.count.ensures ∙ ap (one_more (report_counts l.report)) (c.class_of.ensures ∙ ap (λ t. class_of t (eqb h.quality 1) false) t)) l.invariant
 
 -- a refusal is handed on with its place
 refused_there : (c : After-from_residual) → (e : Refusal) × (c.read_next.result ≡ Err e) × (c.from_residual.result ≡ Err (record { refusal = e; frame = c.loop-at.report.frames; octet = c.loop-at.at }))
@@ -51,7 +51,7 @@ returns-in_err-h c =
     let l = c.loop-at in
     let p = refused_there c in
     ap reported_of p.2
-    ∙ counted_stop s l.at (counts_of l.report) (number_of p.0) (omega arith)
+    ∙ counted_stop s l.at (report_counts l.report) (number_of p.0) (omega arith)
     (sym (part_read storage s l.at c.read_next.result c.read_next.ensures) ∙ ap (reading_of (λ t. core_in storage t (bits (drop l.at s)))) p.1) l.invariant
 
 pub overflow_add-at : goal.overflow_add-at

@@ -11,7 +11,7 @@ use Rattle.recordings.proofs.ViewCalls.{next_frame}
 use Rattle.frame.specs.Answers.{format_of, number_of, frame_with, reading_of}
 use Rattle.frame.specs.declared.Refusal.{Refusal}
 use Rattle.recording_reader.proofs.ScanLaws.{part_read}
-use Rattle.viewer.specs.Answers.{view_of, core_at}
+use Rattle.viewer.specs.Answers.{view_of, core_in_recording}
 use Rattle.viewer.proofs.NextLaws.{viewed, next_within, frame_next}
 use Rattle.viewer.proofs.Viewer.next.Goals.{In_ok-h, After-from_residual}
 use Rattle.viewer.proofs.Viewer.next.Goals as goal
@@ -38,7 +38,7 @@ returns-in_err-h c =
     let s = v.rec.now in
     let p = refused_there c in
     viewed _ _ _ _
-    (ap (view_of (core_at n v.place.offset s)) p.2
+    (ap (view_of (core_in_recording n v.place.offset s)) p.2
     ∙ sym (next_frame n s f found v.place.number v.place.offset (refused (number_of p.0)) (omega arith) (omega arith)
     (sym (part_read f s v.place.offset c.read_next.result c.read_next.ensures) ∙ ap (reading_of (λ t. core_in f t (bits (drop v.place.offset s)))) p.1)))
 
