@@ -4,9 +4,9 @@ use Rattle.definitions.specs.Outcome.{Outcome, refused, ok}
 use Rattle.definitions.specs.Reading.{overwritten}
 use Rattle.frame.specs.declared.Refusal.{Refusal}
 use Rattle.frame.specs.Answers.{outcome_of}
-use Rattle.links.specs.declared.Answered.{Answered}
 use Rattle.links.specs.declared.Link.{Link}
 use Rattle.links.specs.Calls as paper
+use Rattle.downlink.specs.declared.Answered.{Answered}
 use Rattle.downlink_flows.specs.declared.Subflows.{Subflows}
 use Rattle.downlink_flows.specs.Answers.{Numbers, numbers, subflows_of}
 
@@ -35,6 +35,6 @@ next_link (refused n) l = l
 next_link (ok n) l = paper.recorded n.forward l
 
 -- the same with the state after the call
-pub record DownInto (o : Outcome paper.Down) (l : Link) (a₀ a b₀ b c₀ c : List ℕ) (r : Answered Subflows) : Type 0 where
+pub record DownInto (o : Outcome paper.Down) (l : Link) (a₀ a b₀ b c₀ c : List ℕ) (r : Answered) : Type 0 where
   pub split : SplitInto o a₀ a b₀ b c₀ c r.answer
   pub link : r.link ≡ paper.down_after o l

@@ -14,7 +14,14 @@ use downlink_flows::{Subflows, is_roomy, put_subflows, subflows_of};
 use frame::table::header_bits;
 use frame::{Format, FrameHeader, Refusal};
 use frame_reader::read_if1;
-use links::{Answered, Link};
+use links::Link;
+
+// What Down answers, and the state after the call.
+#[derive(Clone, Copy)]
+pub struct Answered {
+    pub answer: Result<Subflows, Refusal>,
+    pub link: Link,
+}
 
 // Splits a frame that was read, with the header `h`.
 fn split_read(
@@ -79,7 +86,7 @@ pub fn down(
     s1: &mut [u8],
     s2: &mut [u8],
     s3: &mut [u8],
-) -> Answered<Subflows>
+) -> Answered
     ensures { DownInto (down_call link frame.now (length s1.old) (length s2.old) (length s3.old)) link s1.old s1.new s2.old s2.new s3.old s3.new result }
 {
     let answer = split_frame(link, frame, s1, s2, s3);

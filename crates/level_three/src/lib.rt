@@ -9,6 +9,7 @@ ghost use Rattle.answers.specs.Flat.{FlatOutput};
 ghost use Rattle.link_answers.specs.Flat.{link_numbers, FlatDown};
 
 use answers::Answer;
+use downlink::Answered;
 // Level two's calls, as they are there.
 pub use level_two::{
     amrwb_build_if1, amrwb_build_if2, amrwb_build_stored, amrwb_class, amrwb_convert,
@@ -16,7 +17,7 @@ pub use level_two::{
     amrwb_validate, amrwb_view_next, amrwb_view_open,
 };
 use link_answers::{DownNumbers, LinkAnswer, moved_answer};
-use links::{Answered, Link};
+use links::Link;
 use uplink_judge::SubflowOctets;
 
 // ---- the link

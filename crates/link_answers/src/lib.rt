@@ -7,9 +7,9 @@ ghost use Rattle.downlink.specs.Answers.{down_of};
 ghost use Rattle.link_answers.specs.Flat.{link_numbers, down_numbers};
 ghost use Rattle.link_answers.specs.Claims.{LentOctets};
 
-use downlink_flows::Subflows;
+use downlink::Answered;
 use frame::Refusal;
-use links::{Answered, Link};
+use links::Link;
 
 // Whether a call that changes the state was accepted, and the state after it. C fixes the layout, here and below.
 #[repr(C)]
@@ -52,10 +52,10 @@ pub fn moved_answer(link: Link, r: Result<Link, Refusal>) -> LinkAnswer
 }
 
 // Casts: between usize and u64 there is no From; both have 64 bits, so none loses any.
-impl From<Answered<Subflows>> for DownNumbers {
+impl From<Answered> for DownNumbers {
     ghost from_gives = { λ d n. n ≡ down_numbers (down_of d.answer) d.link };
 
-    fn from(d: Answered<Subflows>) -> DownNumbers {
+    fn from(d: Answered) -> DownNumbers {
         let s = d.answer.unwrap_or_default();
         DownNumbers {
             refusal: d.answer.err().map_or(0, u64::from),

@@ -58,13 +58,6 @@ pub struct Link {
     pub forwarded: u16,
 }
 
-// What Down answers, and the state after the call.
-#[derive(Clone, Copy)]
-pub struct Answered<T> {
-    pub answer: Result<T, Refusal>,
-    pub link: Link,
-}
-
 impl TryFrom<u64> for Fqc {
     type Error = Refusal;
 
