@@ -32,8 +32,8 @@ pub fn conversion_claim()
         × (ConvertsFrames wants_one_more → ⊥) }
 {}
 
-// Does nothing. Its contract: demand 3, which every converter that meets demand 2 meets, and that the converter which copies the first frame and counts
-// the others does not meet it.
+// Does nothing. Its contract: demand 3, which every converter that meets demand 2 meets, and that the converter which copies the first frame and
+// counts the others does not meet it.
 pub fn demand_three_claim()
     ensures { RestsOnDemand2 × Demand3 convert_call × (Demand3 first_only → ⊥) }
 {}
