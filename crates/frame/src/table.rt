@@ -4,7 +4,7 @@
 // would be no shorter.
 ghost use Rattle.std.specs.Prelude.{◌≡◌, ◌<◌, ◌≤◌, ◌*◌, ◌/◌, ◌%◌, ◌^◌, true, IfOk};
 ghost use Rattle.definitions.specs.Outcome.{ok, unless};
-ghost use Rattle.definitions.specs.Frames.{if2, known, core_bits, class_a, octets, core_octets, carries_modes, header_bits, fill_bits, spare_before, spare_after};
+ghost use Rattle.definitions.specs.Frames.{if2, known, core_bits, class_a, octets, core_octets, carries_modes, header_bits, fill_bits, spare_before};
 ghost use Rattle.frame.specs.Answers.{format_of, built_of};
 
 use crate::{Format, Refusal};
@@ -138,16 +138,5 @@ pub fn spare_before(f: Format) -> usize
     match f {
         Format::If1 | Format::If2 => 0,
         Format::Storage => 1,
-    }
-}
-
-// Spare bits behind the quality.
-pub fn spare_after(f: Format) -> usize
-    ensures { (result ≡ spare_after (format_of f)) × (result ≤ 3) }
-{
-    match f {
-        Format::If1 => 3,
-        Format::If2 => 0,
-        Format::Storage => 2,
     }
 }
