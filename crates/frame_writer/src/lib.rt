@@ -25,8 +25,8 @@ pub fn first_octet(f: Format, t: u8, q: u8) -> u8
     }
 }
 
-// Writes a frame whose header is within one octet. Here and below no struct holds what `Writable` tells of: it tells of the output too, which
-// is lent to be written.
+// Writes a frame whose header is within one octet. Here and below no struct holds what `Writable` asks: it asks of the output
+// too, which is lent to be written.
 fn write_short(f: Format, h: FrameHeader, src: &[u8], from: usize, out: &mut [u8])
     requires { Writable (format_of f) h src.now from out.old × (carries_modes (format_of f) h.frame_type ≡ false) }
     ensures { out.new ≡ layout (format_of f) (run_frame h src.now from) ++ drop (octets (format_of f) h.frame_type) out.old }

@@ -1,4 +1,4 @@
--- Level one has recordings and frames in IF1 and IF2; "in level one's library format 3 is out of range".
+-- Level one has recordings and frames in IF1 and IF2: format 3 is out of range there, 11, judged first (docs/DECISIONS.md, "Levels").
 use Rattle.std.specs.Prelude.{◌&&◌, List, ℕ, leb}
 use Rattle.definitions.specs.Outcome.{Outcome, unless}
 use Rattle.definitions.specs.Frames.{Frame}

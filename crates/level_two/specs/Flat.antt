@@ -11,6 +11,7 @@ use Rattle.level_two.specs.declared.ClassAnswer.{ClassAnswer}
 use Rattle.level_two.specs.declared.ViewAnswer.{ViewAnswer}
 use Rattle.level_two.specs.declared.ReportAnswer.{ReportAnswer}
 
+-- the interface's own numbers; document 01 gives the classes none
 abbrev pub speech_number : SpeechClass → ℕ
 speech_number speech_good = 1
 speech_number speech_bad = 2

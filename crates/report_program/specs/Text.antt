@@ -3,7 +3,7 @@ use Rattle.std.specs.Prelude.{cond, List, [], ◌∷◌, ◌++◌, ℕ, zero, su
 use Rattle.recordings.specs.Placed.{Placed, refused_at, done}
 use Rattle.recordings.specs.Report.{Report}
 
--- the digits of a number that has at most so many; none is 0 in front
+-- the decimal digits of a number, in ASCII, without leading zeros; it has at most so many
 abbrev pub digits_up_to : (most : ℕ) → ℕ → List ℕ
 digits_up_to zero n = []
 digits_up_to (suc most) n = cond (ltb n 10) ((48 + n) ∷ []) (digits_up_to most (n / 10) ++ ((48 + n % 10) ∷ []))

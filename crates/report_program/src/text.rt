@@ -17,7 +17,7 @@ impl fmt::Display for ReportText {
     ghost output = { λ t. Some (report_text (reported_of t.0)) };
 
     fn fmt<W: fmt::Write>(&self, f: &mut fmt::Formatter<W>) -> fmt::Result {
-        // Each number is read into a variable: of a number that was read, a proof knows its bound.
+        // Each number is read into a variable, so that its type's bound is there for the proof.
         match &self.0 {
             Ok(r) => {
                 let (octets, frames) = (r.octets, r.frames);
