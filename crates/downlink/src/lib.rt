@@ -80,13 +80,7 @@ pub fn forwarded_after(last: u16, d: Result<Subflows, Refusal>) -> u16
 }
 
 // Splits an IF1 frame, and records a request that is forwarded. An entry.
-pub fn down(
-    link: Link,
-    frame: &[u8],
-    s1: &mut [u8],
-    s2: &mut [u8],
-    s3: &mut [u8],
-) -> Answered
+pub fn down(link: Link, frame: &[u8], s1: &mut [u8], s2: &mut [u8], s3: &mut [u8]) -> Answered
     ensures { DownInto (down_call link frame.now (length s1.old) (length s2.old) (length s3.old)) link s1.old s1.new s2.old s2.new s3.old s3.new result }
 {
     let answer = split_frame(link, frame, s1, s2, s3);
