@@ -2,7 +2,7 @@
 use mathlib.Core.Path.{◌≡◌, ap}
 use Rattle.answers.proofs.Claims.{written}
 use Rattle.level_two.specs.declared.ViewAnswer.{ViewAnswer}
-use Rattle.level_two.specs.Claims.{LentOctets}
+use Rattle.level_two.specs.Claims.{ViewerLentOctets}
 
 -- a field of an answer
 module _ {a b : ViewAnswer} (e : a ≡ b) where
@@ -21,7 +21,7 @@ module _ {a b : ViewAnswer} (e : a ≡ b) where
   class : a.class ≡ b.class
   class = ap (λ (v : ViewAnswer). v.class) e
 
-pub lent_octets : LentOctets
+pub lent_octets : ViewerLentOctets
 lent_octets = record {
   view_refused = λ n k at place d₀ d r p. (
     p.buffer,

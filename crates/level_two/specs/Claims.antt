@@ -10,7 +10,7 @@ use Rattle.answers.specs.Claims.{Written}
 use Rattle.level_two.specs.declared.ViewAnswer.{ViewAnswer}
 use Rattle.level_two.specs.Flat.{class_number, FlatView}
 
-pub record LentOctets : Type 0 where
+pub record ViewerLentOctets : Type 0 where
   pub view_refused : (n k at : ℕ) (place : ℕ × ℕ) (d₀ d : List ℕ) (r : ViewAnswer) → FlatView (refused_at n k at) place d₀ d r
       → (d ≡ d₀) × (r.refusal ≡ n) × (r.frame ≡ k) × (r.octet ≡ at) × (r.number ≡ place.0) × (r.offset ≡ place.1) × (r.class ≡ 0)
   pub view_ended : (place : ℕ × ℕ) (d₀ d : List ℕ) (r : ViewAnswer) → FlatView (done end) place d₀ d r

@@ -16,7 +16,7 @@ ghost use Rattle.recordings.specs.Report.{report_call};
 ghost use Rattle.frame.specs.Answers.{number_of};
 ghost use Rattle.answers.specs.Flat.{placed_numbers, FlatConversion, FlatOutput, FlatFrame};
 ghost use Rattle.level_two.specs.Flat.{class_number, class_numbers, unshown, open_numbers, FlatView, report_numbers};
-ghost use Rattle.level_two.specs.Claims.{LentOctets};
+ghost use Rattle.level_two.specs.Claims.{ViewerLentOctets};
 ghost use Rattle.reception.specs.Classes.{reception_of, classified_of};
 ghost use Rattle.report.specs.Answers.{reported_of};
 
@@ -267,5 +267,5 @@ pub fn amrwb_report(rec: &[u8]) -> ReportAnswer
 // Does nothing. Its contract: demand 1 at the C interface, of the viewer. A refused call and one at the end leave every lent octet and the place,
 // and another writes the front of its buffer alone.
 pub fn lent_octets_claim()
-    ensures { LentOctets }
+    ensures { ViewerLentOctets }
 {}

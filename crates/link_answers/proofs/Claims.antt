@@ -2,9 +2,9 @@
 use mathlib.Core.Path.{ap}
 use Rattle.answers.proofs.Claims.{written}
 use Rattle.link_answers.specs.declared.DownNumbers.{DownNumbers}
-use Rattle.link_answers.specs.Claims.{LentOctets}
+use Rattle.link_answers.specs.Claims.{DownLentOctets}
 
-pub lent_octets : LentOctets
+pub lent_octets : DownLentOctets
 lent_octets = record {
   down_refused = λ n l a₀ a b₀ b c₀ c r p.
       (p.buffer1, p.buffer2, p.buffer3, ap (λ (x : DownNumbers). x.refusal) p.answer, ap (λ (x : DownNumbers). x.link) p.answer);

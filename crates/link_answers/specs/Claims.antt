@@ -8,7 +8,7 @@ use Rattle.links.specs.Calls.{Down}
 use Rattle.link_answers.specs.declared.DownNumbers.{DownNumbers}
 use Rattle.link_answers.specs.Flat.{FlatDown}
 
-pub record LentOctets : Type 0 where
+pub record DownLentOctets : Type 0 where
   pub down_refused : (n : ℕ) (l : Link) (a₀ a b₀ b c₀ c : List ℕ) (r : DownNumbers) → FlatDown (refused n) l a₀ a b₀ b c₀ c r
       → (a ≡ a₀) × (b ≡ b₀) × (c ≡ c₀) × (r.refusal ≡ n) × (r.link ≡ l)
   pub down_done : (y : Down) (l : Link) (a₀ a b₀ b c₀ c : List ℕ) (r : DownNumbers) → FlatDown (ok y) l a₀ a b₀ b c₀ c r

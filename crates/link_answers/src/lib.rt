@@ -5,7 +5,7 @@ ghost use Rattle.std.specs.Prelude.{◌≡◌};
 ghost use Rattle.link_state.specs.Answers.{moved_of};
 ghost use Rattle.downlink.specs.Answers.{down_of};
 ghost use Rattle.link_answers.specs.Flat.{link_numbers, down_numbers};
-ghost use Rattle.link_answers.specs.Claims.{LentOctets};
+ghost use Rattle.link_answers.specs.Claims.{DownLentOctets};
 
 use downlink::Answered;
 use frame::Refusal;
@@ -76,5 +76,5 @@ impl From<Answered> for DownNumbers {
 // Does nothing. Its contract: demand 1 at the C interface, of Down. A refused call leaves every lent octet and the state, and another writes the
 // front of each buffer alone.
 pub fn lent_octets_claim()
-    ensures { LentOctets }
+    ensures { DownLentOctets }
 {}

@@ -13,11 +13,11 @@ use Rattle.recording_reader.specs.declared.RefusedAt.{RefusedAt}
 use Rattle.viewer.specs.declared.Place.{Place}
 
 -- the number and the offset
-abbrev pub place_of : Place → ℕ × ℕ
-place_of p = (p.number, p.offset)
+abbrev pub number_and_offset : Place → ℕ × ℕ
+number_and_offset p = (p.number, p.offset)
 
 abbrev pub opened_of : Result Place RefusedAt → Placed (ℕ × ℕ)
-opened_of = placed_of place_of
+opened_of = placed_of number_and_offset
 
 -- what a call hands out: a frame with the place behind it, or the end
 abbrev pub Shown : Type 0
@@ -33,7 +33,7 @@ view_of core = placed_of (shown_of core)
 
 -- the number and the offset for the call behind an answer: the end and a refusal leave them
 abbrev pub place_after : ℕ × ℕ → Result Shown RefusedAt → ℕ × ℕ
-place_after place (Ok (Some r)) = place_of r.1
+place_after place (Ok (Some r)) = number_and_offset r.1
 place_after place (Ok None) = place
 place_after place (Err e) = place
 

@@ -9,7 +9,7 @@ ghost use Rattle.definitions.specs.Reading.{format_numbered};
 ghost use Rattle.recordings.specs.Viewer.{open_call, view_call};
 ghost use Rattle.frame.specs.Answers.{format_of};
 ghost use Rattle.recording_reader.specs.Answers.{placed_of};
-ghost use Rattle.viewer.specs.Answers.{place_of, opened_of, Nexts, ViewsInto};
+ghost use Rattle.viewer.specs.Answers.{number_and_offset, opened_of, Nexts, ViewsInto};
 
 use frame::{Format, FrameHeader, Refusal};
 use frame_reader::{core_out, read_next};
@@ -34,7 +34,7 @@ impl<'a> Viewer<'a> {
     // Opens a recording, at its first frame.
     #[tactic(auto, unfolding(recordings::specs::Viewer::open_call))]
     pub fn open(format: u64, rec: &'a [u8]) -> Result<Viewer<'a>, RefusedAt>
-        ensures place { placed_of (λ v. place_of v.place) result ≡ open_call format rec.now }
+        ensures place { placed_of (λ v. number_and_offset v.place) result ≡ open_call format rec.now }
         ensures over { IfOk result (λ v. (v.rec ≡ rec.entry) × (format_numbered format ≡ ok (format_of v.format))) }
     {
         let f = Format::try_from(format)?;
@@ -114,7 +114,7 @@ pub fn view_next(
     rec: &[u8],
     core: &mut [u8],
 ) -> Result<Option<(FrameHeader, Place)>, RefusedAt>
-    ensures { ViewsInto (view_call format place.offset place.number rec.now (length core.old)) (place_of place) core.old core.new result }
+    ensures { ViewsInto (view_call format place.offset place.number rec.now (length core.old)) (number_and_offset place) core.old core.new result }
 {
     let f = Format::try_from(format)?;
     let Some((h, behind)) = Viewer::new(rec, f, place).next()? else {
