@@ -8,6 +8,7 @@ pub mod WrongReaders
 pub mod WrongBuilders
 pub mod Order
 pub mod WrongOrders
+mod Fixed
 mod Classes
 mod Cases
 mod WrongAnswerers

@@ -1,6 +1,6 @@
 -- A table that holds each of 0 to K-1 exactly one time takes the codec bits to the core and back: where it has n there is n, and there alone.
 -- Assumes nothing.
-use mathlib.Core.Path.{◌≡◌, refl, sym, ap, ◌∙◌}
+use mathlib.Core.Path.{◌≡◌, refl, sym, ap, ◌∙◌, subst}
 use mathlib.Core.Bool.{Bool, true, false, ◌&&◌, cond}
 use mathlib.Core.List.{List, [], ◌∷◌, map}
 use Prim.Native.Nat.{ℕ, zero, suc, ◌+◌, ◌-◌, ◌*◌, ◌≤◌, ◌<◌}
@@ -8,16 +8,18 @@ use native.Mathlib.Omega.{arith}
 use lib.Dec.{eqb, leb}
 use lib.ListN.{length, get_or, take, drop, length-map}
 use lib.Seq.{ext_get_or}
+use Rattle.std.proofs.lemmas.List.{get_or-take}
 use borrow.Author.Tests.{leb-true, le-leb, eqb-true, eq-eqb}
 use Rattle.bits.specs.Bits.{one_if, clear, bits, pack, octets_for, Octets}
-use Rattle.bits.proofs.BitLaws.{length-pack}
+use Rattle.bits.proofs.BitLaws.{length-pack, pack_octets}
 use Rattle.bits.proofs.Tests.{and_left, and_right, every_below, every_below_lem}
 use Rattle.definitions.specs.Outcome.{ok}
 use Rattle.definitions.specs.Frames.{core_bits, core_octets}
 use Rattle.definitions.specs.Reading.{buffer_core, core_fill_clear}
 use Rattle.definitions.specs.Tables.{table0, table1, table2, table3, table4}
 use Rattle.definitions.specs.Order.{order_table, codec_bit, zero_or_one, row_bits, row_octets, ordered, place_of, numbers_from, unordered, to_core_call, to_row_call}
-use Rattle.definitions.specs.Claims.{times, Permutes, TablesPermute, OrdersBack}
+use Rattle.definitions.specs.Claims.{times, Permutes, TablesPermute, OrdersBack, OrdersByTables}
+use Rattle.definitions.proofs.Outcome.{unless-ok}
 use Rattle.definitions.proofs.Claims.{packed_core, bits-core}
 
 -- ---- the rule of the tables, by one test that antt computes over all of them
@@ -87,10 +89,13 @@ pub length-ordered : (table : List ℕ) (s : List Bool) → length (ordered tabl
 unfolding ordered
 length-ordered table s = length-map table _
 
-pub get_or-ordered : (table : List ℕ) (s : List Bool) (j : ℕ) → j < length table → get_or (ordered table s) j false ≡ get_or s (get_or table j 0) false
+ordered-bit : (table : List ℕ) (s : List Bool) (j : ℕ) → j < length table → get_or (ordered table s) j false ≡ codec_bit s (get_or table j 0 + 1)
 unfolding ordered
+ordered-bit table s j h = get_or_map (λ n. codec_bit s (n + 1)) table j 0 false h
+
+pub get_or-ordered : (table : List ℕ) (s : List Bool) (j : ℕ) → j < length table → get_or (ordered table s) j false ≡ get_or s (get_or table j 0) false
 get_or-ordered table s j h =
-    get_or_map (λ n. codec_bit s (n + 1)) table j 0 false h ∙ ap (λ n. get_or s n false) (let e : get_or table j 0 + 1 - 1 ≡ get_or table j 0 = omega arith in e)
+    ordered-bit table s j h ∙ ap (λ n. get_or s n false) (let e : get_or table j 0 + 1 - 1 ≡ get_or table j 0 = omega arith in e)
 
 pub length-unordered : (table : List ℕ) (d : List Bool) → length (unordered table d) ≡ length table
 unfolding unordered
@@ -177,6 +182,52 @@ core-bits m d l =
       ap (λ k. clear (8 * length (pack d) - k) (drop k (bits (pack d)))) (sym l) ∙ b.1,
       ap (λ k. take k (bits (pack d))) (sym l) ∙ b.0,
     )
+
+-- what each call has judged where it shows something
+pub to_core-shown : (m : ℕ) (row : List ℕ) (room : ℕ) (core : List ℕ) → to_core_call m row room ≡ ok core
+    → (m ≤ 4) × (length row ≡ core_bits m) × (zero_or_one row ≡ true) × (core_octets m ≤ room) × (pack (ordered (order_table m) (row_bits row)) ≡ core)
+unfolding to_core_call
+to_core-shown m row room core e =
+    let a = unless-ok 11 (leb m 8 && (eqb (length row) (core_bits m) && zero_or_one row)) _ core e in
+    let b = unless-ok 12 (leb m 4) _ core a.1 in
+    let c = unless-ok 10 (leb (core_octets m) room) _ core b.1 in
+    let v = and_right (leb m 8) _ a.0 in
+    (leb-true m 4 b.0, eqb-true _ _ (and_left _ _ v), and_right (eqb (length row) (core_bits m)) _ v, leb-true _ _ c.0, (let d = c.1 in cc))
+
+pub to_row-shown : (m : ℕ) (core : List ℕ) (room : ℕ) (row : List ℕ) → to_row_call m core room ≡ ok row
+    → (m ≤ 4) × (length core ≡ core_octets m) × (core_fill_clear m core ≡ true) × (core_bits m ≤ room)
+unfolding to_row_call
+to_row-shown m core room row e =
+    let a = unless-ok 11 (leb m 8 && eqb (length core) (core_octets m)) _ row e in
+    let b = unless-ok 5 (core_fill_clear m core) _ row a.1 in
+    let c = unless-ok 12 (leb m 4) _ row b.1 in
+    let d = unless-ok 10 (leb (core_bits m) room) _ row c.1 in
+    (leb-true m 4 c.0, eqb-true _ _ (and_right (leb m 8) _ a.0), b.0, leb-true _ _ d.0)
+
+pub orders_by_tables : OrdersByTables to_core_call
+orders_by_tables = record { bit = bit_at; packed = whole }
+  where
+    bit_at : (m : ℕ) (row core : List ℕ) (room j : ℕ) → m ≤ 4 → to_core_call m row room ≡ ok core → j < core_bits m
+        → get_or (bits core) j false ≡ codec_bit (row_bits row) (get_or (order_table m) j 0 + 1)
+    bit_at m row core room j h e l =
+        let t = order_table m in
+        let s = row_bits row in
+        let w = (tables_permute.each m h).whole in
+        let c = core-bits m (ordered t s) (length-ordered t s ∙ w) in
+        let r = to_core-shown m row room core e in
+        ap (λ d. get_or (bits d) j false) (sym r.4)
+        ∙ sym (get_or-take (core_bits m) (bits (pack (ordered t s))) j false l)
+        ∙ ap (λ d. get_or d j false) c.2
+        ∙ ordered-bit t s j (omega arith)
+
+    whole : (m : ℕ) (row core : List ℕ) (room : ℕ) → m ≤ 4 → to_core_call m row room ≡ ok core
+        → Octets core × (length core ≡ core_octets m) × (core_fill_clear m core ≡ true)
+    whole m row core room h e =
+        let t = order_table m in
+        let d = ordered t (row_bits row) in
+        let c = core-bits m d (length-ordered t (row_bits row) ∙ (tables_permute.each m h).whole) in
+        let r = to_core-shown m row room core e in
+        subst (λ core. Octets core × (length core ≡ core_octets m) × (core_fill_clear m core ≡ true)) r.4 (pack_octets d, c.0, c.1)
 
 pub orders_back : OrdersBack to_core_call to_row_call
 orders_back = record { row_back = there; core_back = back }

@@ -17,10 +17,9 @@ use Rattle.bits.proofs.Tests.{and_left, and_right, or_else, given, every_below_l
 use Rattle.definitions.specs.Outcome.{Outcome, refused, ok, and_then}
 use Rattle.definitions.specs.Frames.{Format, if1, if2, storage, Frame, layout, known, core_bits, octets, core_octets, carries_modes, header_bits, sid_good, spare_before, spare_after, type_in, frame_in, fill_bits, spare_clear, fields_good, crc_good}
 use Rattle.definitions.specs.Reading.{read_with, format_numbered, into_buffer, read_call, core_fill_clear, frame_of, build_check, build_frame}
-use Rattle.definitions.specs.Claims.{Builder, BuildsFrames}
-use Rattle.definitions.specs.Refusals.{refusal_order, FirstOf, Reserved, SparePlace, IsOne, FieldFault, FrameFault, RefusesFrames, CallFault, RefusesCalls, BuildFault, RefusesBuilds, AnswersFixed}
+use Rattle.definitions.specs.Refusals.{refusal_order, FirstOf, Reserved, SparePlace, IsOne, FieldFault, FrameFault, RefusesFrames, CallFault, RefusesCalls, BuildFault, RefusesBuilds}
 use Rattle.definitions.proofs.Frames.{fields_are_good, never}
-use Rattle.definitions.proofs.Outcome.{judge, Decides, Fails, also, no_refusal, refuses-first, refuses-head, judge-then, same-answer}
+use Rattle.definitions.proofs.Outcome.{judge, Decides, Fails, also, no_refusal, refuses-first, refuses-head, judge-then}
 
 -- ---- bits that are 0
 
@@ -431,37 +430,3 @@ module _ (f : Format) (t q i r : ℕ) (c : List ℕ) (room : ℕ) where
 
 pub refuses-builds : RefusesBuilds build_frame
 refuses-builds = record { exactly = λ f t q i r c room n o. build-refused f t q i r c room n }
-
--- ---- nothing is left free
-
--- a claim that fixes when each number comes, met by two calls
-same-refusal : {A : Type 0} (o p : Outcome A) (fault : ℕ → Type 0) → ((n : ℕ) → (o ≡ refused n) ↔ FirstOf fault refusal_order n)
-    → ((n : ℕ) → (p ≡ refused n) ↔ FirstOf fault refusal_order n) → (n : ℕ) → o ≡ refused n → p ≡ refused n
-same-refusal o p fault f g n h = (g n).1 ((f n).0 h)
-
--- what a builder writes it writes of the frame that it is handed
-builds-same : (build build' : Builder) → BuildsFrames build → RefusesBuilds build → BuildsFrames build' → RefusesBuilds build'
-    → (f : Format) (t q i r : ℕ) (c : List ℕ) (room : ℕ) → Octets c → (w : List ℕ) → build f t q i r c room ≡ ok w
-    → (o : Outcome (List ℕ)) → build' f t q i r c room ≡ o → build' f t q i r c room ≡ ok w
-builds-same build build' b z b' z' f t q i r c room oc w h (refused n) e =
-    no_refusal w n (sym h ∙ (z.exactly f t q i r c room n oc).1 ((z'.exactly f t q i r c room n oc).0 e))
-builds-same build build' b z b' z' f t q i r c room oc w h (ok v) e =
-    e ∙ ap ok ((b'.sound f t q i r c room v oc e).1 ∙ sym (b.sound f t q i r c room w oc h).1)
-
-pub answers_fixed : AnswersFixed
-answers_fixed = record {
-  readers = λ read read' a b a' b' f s o.
-      same-answer (read f s) (read' f s) (λ y h. (a'.exactly f s y.0 y.1 o).1 ((a.exactly f s y.0 y.1 o).0 h))
-      (same-refusal (read f s) (read' f s) (FrameFault false f s) (λ n. b.exactly f s n o) (λ n. b'.exactly f s n o));
-  single_readers = λ read read' a b a' b' f s o.
-      same-answer (read f s) (read' f s) (λ y h. (a'.exactly f s y.0 y.1 o).1 ((a.exactly f s y.0 y.1 o).0 h))
-      (same-refusal (read f s) (read' f s) (FrameFault true f s) (λ n. b.exactly f s n o) (λ n. b'.exactly f s n o));
-  calls = λ read read' a b a' b' format s room o.
-      same-answer (read format s room) (read' format s room) (λ y h. (a'.exactly format s room y.0 y.1 o).1 ((a.exactly format s room y.0 y.1 o).0 h))
-      (same-refusal (read format s room) (read' format s room) (CallFault format s room) (λ n. b.exactly format s room n o) (λ n. b'.exactly format s room n o));
-  builders = λ build build' a b a' b' f t q i r c room o.
-      same-answer (build f t q i r c room) (build' f t q i r c room)
-      (λ w h. builds-same build build' a b a' b' f t q i r c room o w h (build' f t q i r c room) refl)
-      (same-refusal (build f t q i r c room) (build' f t q i r c room) (BuildFault f t q i r c room) (λ n. b.exactly f t q i r c room n o)
-      (λ n. b'.exactly f t q i r c room n o));
-}

@@ -1,16 +1,18 @@
 -- A wrong call is asked for a row of mode 0; a number that stands twice is at two places, where `place-only` says one. Assumes nothing.
 use mathlib.Core.Path.{◌≡◌, refl, ap}
+use mathlib.Core.Bool.{true, false, true≢false}
 use mathlib.Core.List.{List, ◌∷◌}
 use Prim.Native.Nat.{ℕ, zero, suc, ◌≤◌, ◌<◌}
 use native.Mathlib.Omega.{arith}
 use lib.ListN.{get_or, replicate}
 use borrow.Author.Tests.{leb-false}
-use Rattle.bits.specs.Bits.{odd, digits, num, bits}
+use Rattle.bits.specs.Bits.{odd, digits, num, bits, packs, pack}
 use Rattle.definitions.specs.Frames.{core_bits}
+use Rattle.definitions.specs.Tables.{table0}
 use Rattle.definitions.specs.Claims.{times, Permutes}
-use Rattle.definitions.specs.Order.{place_of}
+use Rattle.definitions.specs.Order.{order_table, place_of, ordered}
 use Rattle.definitions.specs.Refusals.{refusal_order, ToCoreFault, ToRowFault}
-use Rattle.definitions.specs.WrongOrders.{WrongOrders}
+use Rattle.definitions.specs.WrongOrders.{order_kept, WrongOrders}
 use Rattle.definitions.proofs.Outcome.{first-holds}
 use Rattle.definitions.proofs.Order.{place-only}
 use Rattle.definitions.proofs.OrderRefusals.{to_core-room, to_row-room}
@@ -18,6 +20,10 @@ use Rattle.definitions.proofs.OrderRefusals.{to_core-room, to_row-room}
 -- two rows of mode 0
 abbrev row_of : ℕ → List ℕ
 row_of n = n ∷ replicate 131 0
+
+-- a row of mode 0 whose second bit is 1: d(1) is its sixth
+abbrev second_set : List ℕ
+second_set = 0 ∷ (1 ∷ replicate 130 0)
 
 -- two cores of mode 0
 abbrev core_of : ℕ → List ℕ
@@ -38,7 +44,7 @@ twice k table i j h l e p =
     omega (arith, place-only table i (omega (arith, p.whole)) (at i (omega arith)), place-only table j (omega (arith, p.whole)) (at j l), ap (λ n. place_of n table) e)
 
 pub wrong_orders : WrongOrders
-unfolding core_bits bits digits odd num
+unfolding core_bits bits digits odd num pack packs order_table table0 ordered order_kept
 wrong_orders = record {
   entry_twice = twice;
   declines = λ to_core to_row none claim.
@@ -60,6 +66,9 @@ wrong_orders = record {
       let r : core_of 0 ≡ core_of 128 = cc in
       let z : ◌≡◌ {A = ℕ} 0 128 = ap (λ l. get_or l 0 0) r in
       omega arith;
+  keeps_order = λ claim.
+      let e : true ≡ false = claim.bit 0 second_set _ 17 1 (omega arith) refl (omega arith) in
+      true≢false e;
   core_fits = λ to_core to_row mode row room l h claim.
       omega (
         arith,

@@ -1,10 +1,10 @@
 -- Demand 2 for one frame: what is to be true of a reader, of the layouts, of the builder and of the codec order.
-use Rattle.std.specs.Prelude.{◌≡◌, true, ◌↔◌, List, [], ◌∷◌, ◌++◌, ℕ, ◌+◌, ◌≤◌, ◌<◌, length, get_or, take, eqb}
-use Rattle.bits.specs.Bits.{one_if, Octets, pack}
+use Rattle.std.specs.Prelude.{◌≡◌, true, false, ◌↔◌, List, [], ◌∷◌, ◌++◌, ℕ, ◌+◌, ◌≤◌, ◌<◌, length, get_or, take, eqb}
+use Rattle.bits.specs.Bits.{one_if, bits, Octets, pack}
 use Rattle.definitions.specs.Outcome.{Outcome, ok}
 use Rattle.definitions.specs.Frames.{Format, Frame, known, core_bits, core_octets, fields_good, layout}
 use Rattle.definitions.specs.Reading.{format_numbered, core_fill_clear, frame_of}
-use Rattle.definitions.specs.Order.{highest_ordered_mode, order_table, zero_or_one}
+use Rattle.definitions.specs.Order.{highest_ordered_mode, order_table, codec_bit, zero_or_one, row_bits}
 
 -- a frame that the format can hold
 pub record Valid (f : Format) (x : Frame) : Type 0 where
@@ -43,7 +43,7 @@ pub record ReadsCalls (read : FrameCall) : Type 0 where
       → (read format s room ≡ ok (x, k))
       ↔ ((f : Format) × (format_numbered format ≡ ok f) × Valid f x × (s ≡ layout f x) × (core_octets x.type ≤ room) × (core_octets x.type ≡ k))
 
--- no two layouts are one another's beginning but with the same frame
+-- a layout with octets behind it is no other frame's layout with octets behind it
 pub record LayoutsDiffer (lay : Layout) : Type 0 where
   pub prefix_free : (f : Format) (x y : Frame) (a b : List ℕ) → Valid f x → Valid f y → Octets a → Octets b
       → lay f x ++ a ≡ lay f y ++ b → (x ≡ y) × (a ≡ b)
@@ -77,6 +77,14 @@ pub record TablesPermute : Type 0 where
 
 abbrev pub OrderCall : Type 0
 OrderCall = (mode : ℕ) → List ℕ → (room : ℕ) → Outcome (List ℕ)
+
+-- demand 2, of the call from row to core: "d(j) = s(table_m(j)+1)", in exactly the core's octets, whose filling bits are 0. With `OrdersBack` the
+-- other call is fixed too
+pub record OrdersByTables (to_core : OrderCall) : Type 0 where
+  pub bit : (m : ℕ) (row core : List ℕ) (room j : ℕ) → m ≤ highest_ordered_mode → to_core m row room ≡ ok core → j < core_bits m
+      → get_or (bits core) j false ≡ codec_bit (row_bits row) (get_or (order_table m) j 0 + 1)
+  pub packed : (m : ℕ) (row core : List ℕ) (room : ℕ) → m ≤ highest_ordered_mode → to_core m row room ≡ ok core
+      → Octets core × (length core ≡ core_octets m) × (core_fill_clear m core ≡ true)
 
 -- demand 2, of the two calls: with room for what each writes neither is refused, and the second gives back what the first was handed
 pub record OrdersBack (to_core to_row : OrderCall) : Type 0 where

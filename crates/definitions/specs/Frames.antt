@@ -106,6 +106,7 @@ octet_column if1 (row t k a x y z) = x
 octet_column if2 (row t k a x y z) = y
 octet_column storage (row t k a x y z) = z
 
+-- a type that the table lists: 0 to 9, 14 and 15
 unfoldable pub known : ℕ → Bool
 known t = listed type_table t
 
@@ -113,12 +114,15 @@ known t = listed type_table t
 unfoldable pub core_bits : ℕ → ℕ
 core_bits t = core_column (row_in type_table t)
 
+-- Class A, "d(0) onward": so many bits; "Class B the rest"
 unfoldable pub class_a : ℕ → ℕ
 class_a t = class_column (row_in type_table t)
 
+-- a frame's octets; 0 for a type that is not listed
 unfoldable pub octets : Format → ℕ → ℕ
 octets f t = octet_column f (row_in type_table t)
 
+-- those of its packed core
 abbrev pub core_octets : ℕ → ℕ
 core_octets t = octets_for (core_bits t)
 
@@ -218,4 +222,4 @@ fields_good f x =
 unfoldable pub crc_good : Format → List Bool → Bool
 crc_good f bs =
     let t : ℕ = type_in f bs in
-    not (carries_modes f t) || eqb (num 8 (drop crc_at bs)) (num 8 (crc (take (class_a t) (core_in f t bs))))
+    not (carries_modes f t) || eqb (num crc_bits (drop crc_at bs)) (num crc_bits (crc (take (class_a t) (core_in f t bs))))

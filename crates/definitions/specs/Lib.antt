@@ -4,12 +4,12 @@ pub mod Reading
 pub mod Tables
 pub mod Order
 pub mod Reception
-pub mod WrongClassifiers
 pub mod Claims
 pub mod Refusals
+pub mod Cases
+pub mod Bench
+pub mod WrongClassifiers
 pub mod WrongReaders
 pub mod WrongBuilders
 pub mod WrongOrders
-pub mod Cases
-pub mod Bench
 pub mod WrongAnswerers

@@ -26,6 +26,7 @@ read_with single f s =
 abbrev pub read_frame : Format → List ℕ → Outcome (Frame × ℕ)
 read_frame f s = read_with false f s
 
+-- the format of a number, or 11
 abbrev pub format_numbered : ℕ → Outcome Format
 format_numbered zero = refused 11
 format_numbered (suc zero) = ok if1

@@ -51,9 +51,9 @@ Classifier = Frame → Reception
 pub record ClassifiesFrames (classify : Classifier) : Type 0 where
   pub good_speech : (t i r : ℕ) (core : List Bool) → t ≤ highest_mode → classify (frame_by t 1 i r core) ≡ speech speech_good
   pub bad_speech : (t i r : ℕ) (core : List Bool) → t ≤ highest_mode → classify (frame_by t 0 i r core) ≡ speech speech_bad
-  pub first_sid : (i r mode : ℕ) (s : List Bool) → length s ≡ 35 → classify (frame_by sid_type 1 i r (sid_core s false mode)) ≡ sid sid_first
-  pub update_sid : (i r mode : ℕ) (s : List Bool) → length s ≡ 35 → classify (frame_by sid_type 1 i r (sid_core s true mode)) ≡ sid sid_update
-  pub bad_sid : (i r mode : ℕ) (s : List Bool) (sti : Bool) → length s ≡ 35 → classify (frame_by sid_type 0 i r (sid_core s sti mode)) ≡ sid sid_bad
+  pub first_sid : (i r mode : ℕ) (s : List Bool) → length s ≡ sti_at → classify (frame_by sid_type 1 i r (sid_core s false mode)) ≡ sid sid_first
+  pub update_sid : (i r mode : ℕ) (s : List Bool) → length s ≡ sti_at → classify (frame_by sid_type 1 i r (sid_core s true mode)) ≡ sid sid_update
+  pub bad_sid : (i r mode : ℕ) (s : List Bool) (sti : Bool) → length s ≡ sti_at → classify (frame_by sid_type 0 i r (sid_core s sti mode)) ≡ sid sid_bad
   pub lost : (q i r : ℕ) (core : List Bool) → q ≤ 1 → classify (frame_by speech_lost_type q i r core) ≡ speech_lost
   pub empty : (q i r : ℕ) (core : List Bool) → q ≤ 1 → classify (frame_by no_data_type q i r core) ≡ no_data
 

@@ -4,15 +4,15 @@ use Rattle.std.specs.Prelude.{◌≡◌, ◌↔◌, ◌⊎◌, Bool, true, false
 use Rattle.bits.specs.Bits.{num, bits, Octets}
 use Rattle.parity.specs.Crc.{crc}
 use Rattle.definitions.specs.Outcome.{refused, ok}
-use Rattle.definitions.specs.Frames.{Format, if1, if2, storage, highest_mode, sid_type, highest_type, sid_mode_at, Frame, core_bits, class_a, octets, core_octets, carries_modes, header_bits, type_in, core_in, frame_in}
+use Rattle.definitions.specs.Frames.{Format, if1, if2, storage, highest_mode, sid_type, highest_type, sid_mode_at, crc_bits, Frame, core_bits, class_a, octets, core_octets, carries_modes, header_bits, type_in, core_in, frame_in}
 use Rattle.definitions.specs.Reading.{format_numbered, frame_of}
 use Rattle.definitions.specs.Order.{highest_ordered_mode}
-use Rattle.definitions.specs.Claims.{Reader, ReadsFrames, ReadsOneFrame, FrameCall, ReadsCalls, Builder, BuildsFrames, OrderCall}
+use Rattle.definitions.specs.Claims.{Reader, ReadsFrames, ReadsOneFrame, FrameCall, ReadsCalls, Builder, BuildsFrames, OrderCall, OrdersByTables, OrdersBack}
 
 -- ---- the order
 
--- document 01, "Order", for the calls of one frame. It is the order of all calls; two more places, a SID mode above 8 in Up (6) and a recording
--- about to be written (9), stand in front of 10 and concern no call here. "A call tests what concerns it": the other numbers have no condition
+-- document 01's "Order", for the calls of one frame. Its two places in front of 10, 6 in Up and 9 for a recording about to be written, concern
+-- no call here. "A call tests what concerns it": the other numbers have no condition
 abbrev pub refusal_order : List ℕ
 refusal_order = 11 ∷ 14 ∷ 15 ∷ 9 ∷ 8 ∷ 1 ∷ 2 ∷ 3 ∷ 4 ∷ 5 ∷ 6 ∷ 7 ∷ 12 ∷ 13 ∷ 16 ∷ 17 ∷ 10 ∷ []
 
@@ -71,7 +71,7 @@ pub data FrameFault (single : Bool) (f : Format) (s : List ℕ) : ℕ → Type 0
   spare_bit : (i : ℕ) → SparePlace f i → IsOne (bits s) i → FrameFault single f s 5
   filling_bit : (i : ℕ) → FillingPlace f (type_of f s) i → IsOne (bits s) i → FrameFault single f s 5
   field : FieldFault f (frame_in f (bits s)) → FrameFault single f s 6
-  another_crc : f ≡ if1 → type_of f s ≤ sid_type → (get_or s 2 0 ≡ num 8 (crc_of f s) → ⊥) → FrameFault single f s 7
+  another_crc : f ≡ if1 → type_of f s ≤ sid_type → (get_or s 2 0 ≡ num crc_bits (crc_of f s) → ⊥) → FrameFault single f s 7
 
 -- demand 2, of a reader's refusals: "Each number comes on its stated condition and on no other"
 pub record RefusesFrames (single : Bool) (read : Reader) : Type 0 where
@@ -130,7 +130,7 @@ pub record RefusesOrders (to_core to_row : OrderCall) : Type 0 where
 
 -- ---- nothing is left free
 
--- any two readers, calls or builders that meet their claims give the same answers
+-- any two readers, calls, builders or pairs of calls of codec order that meet their claims give the same answers
 pub record AnswersFixed : Type 0 where
   pub readers : (read read' : Reader) → ReadsFrames read → RefusesFrames false read → ReadsFrames read' → RefusesFrames false read'
       → (f : Format) (s : List ℕ) → Octets s → read f s ≡ read' f s
@@ -140,3 +140,7 @@ pub record AnswersFixed : Type 0 where
       → (format : ℕ) (s : List ℕ) (room : ℕ) → Octets s → read format s room ≡ read' format s room
   pub builders : (build build' : Builder) → BuildsFrames build → RefusesBuilds build → BuildsFrames build' → RefusesBuilds build'
       → (f : Format) (t q i r : ℕ) (c : List ℕ) (room : ℕ) → Octets c → build f t q i r c room ≡ build' f t q i r c room
+  pub orders : (to_core to_row to_core' to_row' : OrderCall)
+      → OrdersByTables to_core → OrdersBack to_core to_row → RefusesOrders to_core to_row
+      → OrdersByTables to_core' → OrdersBack to_core' to_row' → RefusesOrders to_core' to_row'
+      → (mode : ℕ) (row core : List ℕ) (room : ℕ) → Octets core → (to_core mode row room ≡ to_core' mode row room) × (to_row mode core room ≡ to_row' mode core room)

@@ -1,5 +1,5 @@
--- Tables B.1 to B.5 of TS 26.201, as printed: ten numbers a row. Tables E.10 to E.14 of G.722.2 Annex E are the same. table_m(0) is the first
--- number, table_m(K-1) the last.
+-- Tables B.1 to B.5 of TS 26.201, as printed: ten numbers a row. Tables E.10 to E.14 of G.722.2 Annex E are the same (E.13 is table_3 by its
+-- caption; its text counts one higher). table_m(0) is the first number, table_m(K-1) the last.
 use Rattle.std.specs.Prelude.{List, [], ◌∷◌, ℕ}
 
 -- table B.1: 6.60 kbit/s

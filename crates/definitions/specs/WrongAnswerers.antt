@@ -3,14 +3,14 @@
 use Rattle.std.specs.Prelude.{cond, [], ◌∷◌, ◌++◌, ◌*◌, reverse, get_or, take, drop, eqb}
 use Rattle.bits.specs.Bits.{octets_for, pack}
 use Rattle.parity.specs.Crc.{crc}
-use Rattle.definitions.specs.Frames.{Format, if1, if2, storage, Frame, frame_by, class_a, layout}
+use Rattle.definitions.specs.Frames.{Format, if1, if2, storage, sid_type, sid_mode_at, Frame, frame_by, class_a, layout}
 use Rattle.definitions.specs.Order.{order_table}
 use Rattle.definitions.specs.Cases.{crc_octet, octets_of, first_octets, sources, one_frame, numbers}
 use Rattle.definitions.specs.Bench.{Answerer, bench_answer}
 
 -- "the comfort mode written low bit first"
 abbrev pub mode_reversed : Frame → Frame
-mode_reversed x = frame_by x.type x.quality x.indication x.request (cond (eqb x.type 9) (take 36 x.core ++ reverse (drop 36 x.core)) x.core)
+mode_reversed x = frame_by x.type x.quality x.indication x.request (cond (eqb x.type sid_type) (take sid_mode_at x.core ++ reverse (drop sid_mode_at x.core)) x.core)
 
 abbrev pub mode_low_bit_first : Answerer
 mode_low_bit_first (octets_of f x) = numbers (layout f (mode_reversed x))

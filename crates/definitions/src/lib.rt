@@ -7,7 +7,7 @@ ghost use Rattle.std.specs.Prelude.{true, false};
 ghost use Rattle.definitions.specs.Frames.{layout};
 ghost use Rattle.definitions.specs.Reading.{read_frame, read_with, read_call, build_frame};
 ghost use Rattle.definitions.specs.Order.{to_core_call, to_row_call};
-ghost use Rattle.definitions.specs.Claims.{ReadsFrames, ReadsOneFrame, ReadsCalls, LayoutsDiffer, BuildsFrames, TablesPermute, OrdersBack};
+ghost use Rattle.definitions.specs.Claims.{ReadsFrames, ReadsOneFrame, ReadsCalls, LayoutsDiffer, BuildsFrames, TablesPermute, OrdersBack, OrdersByTables};
 ghost use Rattle.definitions.specs.Refusals.{RefusesFrames, RefusesCalls, RefusesBuilds, RefusesOrders, AnswersFixed};
 ghost use Rattle.definitions.specs.WrongReaders.{WrongReaders, WrongSingleReaders, WrongRefusals, WrongCalls};
 ghost use Rattle.definitions.specs.WrongBuilders.{WrongLayouts, WrongBuilders};
@@ -44,15 +44,15 @@ pub fn builder_claim()
     ensures { BuildsFrames build_frame × RefusesBuilds build_frame × WrongBuilders }
 {}
 
-// Does nothing. Its contract: the claims of readers, of the call and of the builder fix each answer.
+// Does nothing. Its contract: the claims of readers, of the call, of the builder and of codec order fix each answer.
 pub fn answers_claim()
     ensures { AnswersFixed }
 {}
 
-// Does nothing. Its contract: the tables of codec order are permutations, each of the two calls undoes the other, each
-// refusal comes on its condition, and what is no such order.
+// Does nothing. Its contract: the tables of codec order are permutations, each of the two calls undoes the other, the core's bits are the row's by
+// the table, each refusal comes on its condition, and what is no such order.
 pub fn order_claim()
-    ensures { TablesPermute × OrdersBack to_core_call to_row_call × RefusesOrders to_core_call to_row_call × WrongOrders }
+    ensures { TablesPermute × OrdersBack to_core_call to_row_call × OrdersByTables to_core_call × RefusesOrders to_core_call to_row_call × WrongOrders }
 {}
 
 // Does nothing. Its contract: the reception class of a frame is told by its type, its quality and the STI bit of a SID frame alone; this decides the

@@ -3,10 +3,10 @@ use Rattle.std.specs.Prelude.{◌≡◌, true, List, ℕ, ◌≤◌, length}
 use Rattle.bits.specs.Bits.{pack}
 use Rattle.definitions.specs.Frames.{core_bits, core_octets}
 use Rattle.definitions.specs.Reading.{buffer_core, overwritten}
-use Rattle.definitions.specs.Order.{order_table, zero_or_one, row_bits, row_octets, ordered, unordered}
+use Rattle.definitions.specs.Order.{highest_ordered_mode, order_table, zero_or_one, row_bits, row_octets, ordered, unordered}
 
 pub record RowReady (m : ℕ) (row core : List ℕ) : Type 0 where
-  pub has_order : m ≤ 4
+  pub has_order : m ≤ highest_ordered_mode
   pub size : length row ≡ core_bits m
   pub values : zero_or_one row ≡ true
   pub room : core_octets m ≤ length core
@@ -15,7 +15,7 @@ abbrev pub with_core : (m : ℕ) → (row core : List ℕ) → List ℕ
 with_core m row core = overwritten (pack (ordered (order_table m) (row_bits row))) core
 
 pub record CoreReady (m : ℕ) (core row : List ℕ) : Type 0 where
-  pub has_order : m ≤ 4
+  pub has_order : m ≤ highest_ordered_mode
   pub size : length core ≡ core_octets m
   pub room : core_bits m ≤ length row
 
