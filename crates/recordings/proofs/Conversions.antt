@@ -15,7 +15,7 @@ use Rattle.definitions.specs.Reading.{format_numbered, format_number}
 use Rattle.recordings.specs.Placed.{Placed, refused_at, done, unless_at, and_then_at, placed}
 use Rattle.recordings.specs.Recordings.{limit, read_recording}
 use Rattle.recordings.specs.Conversion.{converted, conversion, convert_call}
-use Rattle.recordings.specs.ConversionClaims.{ValidRecording, OutOfRange, no_source, no_target, no_request, WritingRefusal, too_long, no_room, ConversionRefusal, argument, reading, writing, ConvertsFrames}
+use Rattle.recordings.specs.ConversionClaims.{ValidRecording, OutOfRange, no_source, no_target, request_above, WritingRefusal, too_long, no_room, ConversionRefusal, argument, reading, writing, ConvertsFrames}
 use Rattle.recordings.proofs.Trips.{format_numbered_lem, carried-over}
 
 -- ---- a format's number
@@ -72,7 +72,7 @@ module _ (from to request : ℕ) (s : List ℕ) (room : ℕ) where
     read_reason r (done xs) e = size_reason xs r e (leb (length (converted f g request xs)) limit) refl
 
     request_reason : (b : Bool) → leb request 8 ≡ b → Reason (unless_at 11 b (and_then_at (and_then_at (read_recording f s) (plans f g)) fits))
-    request_reason false e = argument (no_request (leb-false _ _ e))
+    request_reason false e = argument (request_above (leb-false _ _ e))
     request_reason true e = read_reason (leb-true _ _ e) (read_recording f s) refl
 
   reason : Reason (convert_call from to request s room)
@@ -107,7 +107,7 @@ module _ (from to request : ℕ) (s : List ℕ) (room : ℕ) where
       go (ok f) (ok g) false p q e h = refl
       go (ok f) (ok g) true p q e (no_source n) = absurd (n f p)
       go (ok f) (ok g) true p q e (no_target n) = absurd (n g q)
-      go (ok f) (ok g) true p q e (no_request l) = absurd (omega (arith, leb-true request 8 e))
+      go (ok f) (ok g) true p q e (request_above l) = absurd (omega (arith, leb-true request 8 e))
 
   sized : (f g : Format) (xs : List Frame) (n k at : ℕ) → WritingRefusal (length (converted f g request xs)) room n k at → and_then_at (plans f g xs) fits ≡ refused_at n k at
   sized f g xs n k at (too_long l) = rw (lt-leb _ _ l)

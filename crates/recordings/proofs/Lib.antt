@@ -13,3 +13,4 @@ pub mod Report
 mod WrongReaders
 mod WrongConverters
 mod WrongViewers
+mod WrongReports

@@ -19,7 +19,7 @@ use Rattle.recordings.specs.Placed.{Placed, refused_at, done}
 use Rattle.recordings.specs.Recordings.{limit, file_header, read_recording, layouts, write_recording}
 use Rattle.recordings.specs.Conversion.{carried, converted}
 use Rattle.recordings.specs.Claims.{Every, IsRecording}
-use Rattle.recordings.specs.ConversionClaims.{ValidRecording, Converter, CarriedOver, no_source, no_target, no_request, WritingRefusal, too_long, no_room, ConversionRefusal, argument, reading, writing, ConvertsFrames}
+use Rattle.recordings.specs.ConversionClaims.{ValidRecording, Converter, CarriedOver, no_source, no_target, request_above, WritingRefusal, too_long, no_room, ConversionRefusal, argument, reading, writing, ConvertsFrames}
 use Rattle.recordings.specs.Demand3.{RoundTrip, BackRefusal, no_room_back, TripRefusals}
 use Rattle.recordings.proofs.Scan.{not_done}
 use Rattle.recordings.proofs.Claims.{reads_recordings}
@@ -115,7 +115,7 @@ module _ (c : Converter) (d : ConvertsFrames c) where
       only : (n k at : ℕ) → ConversionRefusal (format_number f) (format_number g) r s room n k at → WritingRefusal (length (converted f g r xs)) room n k at
       only n k at (argument (no_source p)) = absurd (p f refl)
       only n k at (argument (no_target p)) = absurd (p g refl)
-      only n k at (argument (no_request l)) = absurd (omega arith)
+      only n k at (argument (request_above l)) = absurd (omega arith)
       only n k at (reading f' g' p q r' e) = not_done n k at xs (sym e ∙ ap (λ f. read_recording f s) (sym (same-number f f' p)) ∙ v)
       only n k at (writing f' g' p q r' xs' v' w) =
           let e : done xs' ≡ done xs = sym v' ∙ ap (λ f. read_recording f s) (sym (same-number f f' p)) ∙ v in

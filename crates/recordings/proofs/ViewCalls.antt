@@ -6,7 +6,7 @@ use mathlib.Core.List.{List}
 use Prim.Native.Nat.{ℕ, suc, ◌+◌, ◌<◌, ◌≤◌}
 use native.Mathlib.Omega.{arith}
 use lib.Dec.{eqb, leb}
-use lib.ListN.{length, drop}
+use lib.ListN.{length, take, drop}
 use borrow.Author.Tests.{le-leb, lt-leb, eq-eqb, ne_eqb, leb-true, leb-false, eqb-true, eqb-false}
 use Rattle.std.proofs.Math.Bool.{and-false}
 use Rattle.definitions.specs.Outcome.{Outcome, refused, ok}
@@ -15,18 +15,20 @@ use Rattle.definitions.specs.Reading.{read_frame, format_numbered}
 use Rattle.recordings.specs.Placed.{Placed, refused_at, done, unless_at, placed}
 use Rattle.recordings.specs.Recordings.{limit, file_header, headed, judged_front}
 use Rattle.recordings.specs.Claims.{FrontRefusal}
-use Rattle.recordings.specs.Viewer.{View, shows, end, open_call, next_call, NextRefusal, past_the_recording, number_above, frame_refused}
-use Rattle.recordings.proofs.Claims.{front_refuses, front_passes, front_said}
+use Rattle.recordings.specs.Viewer.{View, shows, end, open_call, next_call}
+use Rattle.recordings.specs.ViewerClaims.{NextRefusal, past_the_recording, number_above, frame_refused}
+use Rattle.recordings.proofs.Claims.{same-octets, front_refuses, front_passes, front_said}
 
 -- what the answers of opening and of a call for the next frame say
 abbrev pub OpeningSays : Format → List ℕ → Placed (ℕ × ℕ) → Type 0
 OpeningSays f s (refused_at n k at) = FrontRefusal f s n × (k ≡ 0) × (at ≡ 0)
-OpeningSays f s (done place) = Unit {0}
+OpeningSays f s (done place) = (length s ≤ limit) × (take (length (file_header f)) s ≡ file_header f) × (place ≡ (0, length (file_header f)))
 
 abbrev pub NextSays : Format → List ℕ → (k at : ℕ) → Placed View → Type 0
 NextSays f s k at (refused_at n j p) = NextRefusal f at k s n j p
 NextSays f s k at (done end) = (at ≡ length s) × (k ≤ at)
-NextSays f s k at (done (shows x j p)) = (n : ℕ) × (at ≤ length s) × (read_frame f (drop at s) ≡ ok (x, n))
+NextSays f s k at (done (shows x j p)) =
+    (n : ℕ) × (at < length s) × (k ≤ at) × (read_frame f (drop at s) ≡ ok (x, n)) × (j ≡ suc k) × (p ≡ at + n)
 
 -- where a viewer starts
 abbrev start : Format → Placed (ℕ × ℕ)
@@ -72,7 +74,7 @@ module _ (format : ℕ) (s : List ℕ) where
 
     -- what the answer of each call says
     pub open_said : OpeningSays f s (open_call format s)
-    open_said = subst (OpeningSays f s) (sym open_is) (front_said f s (start f) (OpeningSays f s) (λ n r. (r, refl, refl)) (λ l h. tt))
+    open_said = subst (OpeningSays f s) (sym open_is) (front_said f s (start f) (OpeningSays f s) (λ n r. (r, refl, refl)) (λ l h. (l, same-octets _ _ h, refl)))
 
     pub next_said : (k at : ℕ) → NextSays f s k at (next_call format at k s)
     unfolding next_call
@@ -93,9 +95,14 @@ module _ (format : ℕ) (s : List ℕ) where
         go true ea true eb false ec (refused n) e =
             let p : at ≢ length s = eqb-false _ _ ec in
             frame_refused (omega (arith, leb-true at (length s) ea)) (leb-true _ _ eb) e
-        go true ea true eb false ec (ok y) e = (y.1, leb-true _ _ ea, e)
+        go true ea true eb false ec (ok y) e =
+            let p : at ≢ length s = eqb-false _ _ ec in
+            (y.1, omega (arith, leb-true at (length s) ea), leb-true _ _ eb, e, refl, refl)
 
     -- a frame that is shown was read at the place
     pub next_shown : (k at : ℕ) (x : Frame) (j p : ℕ) → next_call format at k s ≡ done (shows x j p)
         → (n : ℕ) × (at ≤ length s) × (read_frame f (drop at s) ≡ ok (x, n))
-    next_shown k at x j p h = subst (NextSays f s k at) h (next_said k at)
+    next_shown k at x j p h =
+        let t = subst (NextSays f s k at) h (next_said k at) in
+        let m : at ≤ length s = omega (arith, t.1) in
+        (t.0, m, t.3)

@@ -1,22 +1,23 @@
 -- A viewer goes through the frames as they are laid out, one a call, and then stays where it is: by induction over the frames and the
--- calls. Assumes nothing.
+-- calls. Two such viewers answer the same, as each answer has its condition. Assumes nothing.
 use mathlib.Core.Path.{◌≡◌, refl, sym, ap, ap₂, ◌∙◌, subst}
 use mathlib.Core.Bool.{false}
 use mathlib.Core.List.{List, [], ◌∷◌, ◌++◌, map, append-nil, append_assoc}
-use Prim.Native.Nat.{ℕ, zero, suc, ◌+◌, ◌≤◌}
+use Prim.Native.Nat.{ℕ, zero, suc, ◌+◌, ◌<◌, ◌≤◌}
 use native.Mathlib.Omega.{arith}
 use lib.ListN.{length, take, drop, replicate, length-replicate, length-append}
 use lib.Seq.{take_at, drop_at, drop-drop, drop-length, take_all}
 use Rattle.definitions.specs.Outcome.{refused, ok}
-use Rattle.definitions.specs.Frames.{Format, Frame, layout, octets}
-use Rattle.definitions.specs.Reading.{read_frame, format_number}
+use Rattle.definitions.specs.Frames.{Format, if1, if2, storage, Frame, layout, octets}
+use Rattle.definitions.specs.Reading.{read_frame, format_numbered, format_number}
 use Rattle.definitions.specs.Claims.{Valid}
 use Rattle.definitions.proofs.Tables.{sized}
 use Rattle.definitions.proofs.Frames.{length-layout, read-layout}
 use Rattle.recordings.specs.Placed.{Placed, refused_at, done}
 use Rattle.recordings.specs.Recordings.{limit, file_header, layouts, write_recording}
 use Rattle.recordings.specs.Claims.{Every, none, first, IsRecording, StopsAt}
-use Rattle.recordings.specs.Viewer.{View, shows, open_call, next_call, Handed, frame, the_end, refusal, handed, moved, in_turn, Hands, NextRefusal, past_the_recording, number_above, frame_refused, ViewsRecordings}
+use Rattle.recordings.specs.Viewer.{View, shows, end, open_call, next_call, moved}
+use Rattle.recordings.specs.ViewerClaims.{Opener, Stepper, Handed, frame, the_end, refusal, handed, in_turn, Hands, NextRefusal, past_the_recording, number_above, frame_refused, ViewsRecordings, ViewersAgree}
 use Rattle.recordings.proofs.Claims.{octets-same, stopped_front, stopped_behind}
 use Rattle.recordings.proofs.Trips.{format_numbered_lem}
 use Rattle.recordings.proofs.ViewCalls.{OpeningSays, NextSays, open_unknown, open_refused, open_first, open_said, next_unknown, next_past, next_above, next_end, next_frame, next_said}
@@ -107,13 +108,20 @@ stopped f s n k at l p =
           p.xs 0 m p.valid (stopped_behind f s n k at p) (omega (arith, p.number)) (omega (arith, size, p.octet)) (omega arith);
     }
 
--- ---- what is refused
+-- ---- what is refused, and what is shown
 
 next-refused : (f : Format) (offset number : ℕ) (s : List ℕ) (n k at : ℕ) → NextRefusal f offset number s n k at
     → next_call (format_number f) offset number s ≡ refused_at n k at
 next-refused f offset number s n k at (past_the_recording l) = next_past (format_number f) s f (format_numbered_lem f) number offset l
 next-refused f offset number s n k at (number_above l) = next_above (format_number f) s f (format_numbered_lem f) number offset l
 next-refused f offset number s n k at (frame_refused l h e) = next_frame (format_number f) s f (format_numbered_lem f) number offset (refused n) l h e
+
+next-shows : (f : Format) (offset number : ℕ) (s : List ℕ) (x : Frame) (number' offset' : ℕ)
+    → ((n : ℕ) × (offset < length s) × (number ≤ offset) × (read_frame f (drop offset s) ≡ ok (x, n)) × (number' ≡ suc number) × (offset' ≡ offset + n))
+    → next_call (format_number f) offset number s ≡ done (shows x number' offset')
+next-shows f offset number s x number' offset' e =
+    next_frame (format_number f) s f (format_numbered_lem f) number offset (ok (x, e.0)) e.1 e.2 e.3
+    ∙ ap₂ (λ j p. done (shows x j p)) (sym e.4) (sym e.5)
 
 pub views_recordings : ViewsRecordings open_call next_call
 views_recordings = record {
@@ -132,4 +140,44 @@ views_recordings = record {
     λ h. subst (NextSays f s number offset) h (next_said (format_number f) s f (format_numbered_lem f) number offset),
     λ e. next_end (format_number f) s f (format_numbered_lem f) number offset e.0 e.1,
   );
+  opened = λ f s place. (
+    λ h. subst (OpeningSays f s) h (open_said (format_number f) s f (format_numbered_lem f)),
+    λ e. open_first (format_number f) s f (format_numbered_lem f) e.0 (octets-same _ _ e.1) ∙ ap done (sym e.2),
+  );
+  shown = λ f offset number s x number' offset'. (
+    λ h. subst (NextSays f s number offset) h (next_said (format_number f) s f (format_numbered_lem f) number offset),
+    next-shows f offset number s x number' offset',
+  );
+}
+
+-- ---- two such viewers answer the same: each answer of one says what makes the other answer so
+
+module _ (opening other : Opener) (next after : Stepper) (v : ViewsRecordings opening next) (w : ViewsRecordings other after) (f : Format) (s : List ℕ) where
+  opens-same : (a : Placed (ℕ × ℕ)) → opening (format_number f) s ≡ a → a ≡ other (format_number f) s
+  opens-same (refused_at n k at) e = sym ((w.unopened f s n k at).1 ((v.unopened f s n k at).0 e))
+  opens-same (done place) e = sym ((w.opened f s place).1 ((v.opened f s place).0 e))
+
+  next-same : (offset number : ℕ) (a : Placed View) → next (format_number f) offset number s ≡ a → a ≡ after (format_number f) offset number s
+  next-same offset number (refused_at n k at) e = sym ((w.refuses f offset number s n k at).1 ((v.refuses f offset number s n k at).0 e))
+  next-same offset number (done (shows x j p)) e = sym ((w.shown f offset number s x j p).1 ((v.shown f offset number s x j p).0 e))
+  next-same offset number (done end) e = sym ((w.ends f offset number s).1 ((v.ends f offset number s).0 e))
+
+-- what holds of each format's number, and of every number that is no format's, holds of all
+by-format : (P : ℕ → Type 0) → ((f : Format) → P (format_number f)) → ((n : ℕ) → format_numbered n ≡ refused 11 → P n) → (n : ℕ) → P n
+by-format P known other zero = other zero refl
+by-format P known other (suc zero) = known if1
+by-format P known other (suc (suc zero)) = known if2
+by-format P known other (suc (suc (suc zero))) = known storage
+by-format P known other (suc (suc (suc (suc n)))) = other (suc (suc (suc (suc n)))) refl
+
+pub viewers_agree : ViewersAgree
+viewers_agree = record {
+  same_opening = λ opening other next after v w format s. by-format (λ n. opening n s ≡ other n s)
+      (λ f. opens-same opening other next after v w f s (opening (format_number f) s) refl)
+      (λ n e. (v.unknown n 0 0 s e).0 ∙ sym (w.unknown n 0 0 s e).0)
+      format;
+  same_next = λ opening other next after v w format offset number s. by-format (λ n. next n offset number s ≡ after n offset number s)
+      (λ f. next-same opening other next after v w f s offset number (next (format_number f) offset number s) refl)
+      (λ n e. (v.unknown n offset number s e).1 ∙ sym (w.unknown n offset number s e).1)
+      format;
 }

@@ -1,5 +1,5 @@
--- The viewer that goes on behind a refused frame, and the one that shows every second frame, are none: each is tried on a recording of two
--- octets. Assumes nothing.
+-- The viewer that goes on behind a refused frame, the one that shows every second frame, and the one that hands on number 0 are none: each is
+-- tried on a recording of two octets. Assumes nothing.
 use mathlib.Core.Path.{◌≡◌, refl, sym, ap, ◌∙◌}
 use mathlib.Core.List.{List, [], ◌∷◌, ◌++◌, map}
 use Prim.Native.Nat.{ℕ}
@@ -12,8 +12,9 @@ use Rattle.definitions.specs.Cases.{no_data_frame}
 use Rattle.recordings.specs.Placed.{done}
 use Rattle.recordings.specs.Recordings.{read_recording, write_recording}
 use Rattle.recordings.specs.Claims.{none, IsRecording, StopsAt}
-use Rattle.recordings.specs.Viewer.{open_call, next_call, Stepper, Handed, frame, the_end, refusal, in_turn, Hands, ViewsRecordings}
-use Rattle.recordings.specs.WrongViewers.{passes_refused, skips_frames}
+use Rattle.recordings.specs.Viewer.{shows, open_call, next_call}
+use Rattle.recordings.specs.ViewerClaims.{Stepper, Handed, frame, the_end, refusal, in_turn, Hands, ViewsRecordings}
+use Rattle.recordings.specs.WrongViewers.{passes_refused, skips_frames, numbers_none}
 use Rattle.recordings.proofs.Claims.{reads_recordings}
 use Rattle.recordings.proofs.Trips.{octets_packed}
 
@@ -83,3 +84,10 @@ skips_frames_lem v =
     sym two_skipped
     ∙ starts skips_frames two (no_data_frame ∷ no_data_frame ∷ []) the_end two_opens (v.valid if2 two (no_data_frame ∷ no_data_frame ∷ []) two_octets two_is) 2 in
     let z : ◌≡◌ {A = ℕ} 0 1 = cc in omega arith
+
+two_numbered : numbers_none 2 0 0 two ≡ done (shows no_data_frame 0 1)
+unfolding next_call read_with odd digits num bits known core_bits octets frame_in spare_clear fields_good crc_good
+two_numbered = refl
+
+pub numbers_none_lem : ViewsRecordings open_call numbers_none → ⊥
+numbers_none_lem v = let e = (v.shown if2 0 0 two no_data_frame 0 1).0 two_numbered in omega (arith, e.4)

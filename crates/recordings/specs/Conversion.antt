@@ -5,15 +5,16 @@ use Rattle.definitions.specs.Reading.{format_numbered, overwritten}
 use Rattle.recordings.specs.Placed.{Placed, refused_at, done, unless_at, and_then_at, placed}
 use Rattle.recordings.specs.Recordings.{limit, read_recording, write_recording}
 
--- "Towards IF1 from another format, indication is the type (0 for type 9), request is r (both 0 for types 14 and 15)"
+-- "Towards IF1 from another format, indication is the type (0 for type 9), request is r (both 0 for types 14 and 15, which carry neither)"
 abbrev pub with_modes : ℕ → Frame → Frame
 with_modes r x = frame_by x.type x.quality (cond (leb x.type highest_mode) x.type 0) (cond (leb x.type sid_type) r 0) x.core
 
--- "each with its type, quality and core"
+-- towards IF2 and storage format, which carry neither
 abbrev pub without_modes : Frame → Frame
 without_modes x = frame_by x.type x.quality 0 0 x.core
 
--- a frame of the format `from` as it is written in the format `to`; "IF1 to IF1 copies"
+-- a frame of the format "from" as it is written in the format "to", which comes first here: "each with its type, quality and core"; "IF1 to
+-- IF1 copies"
 abbrev pub carried : (to from : Format) → ℕ → Frame → Frame
 carried if1 if1 r x = x
 carried if1 if2 r x = with_modes r x

@@ -29,7 +29,7 @@ pub record CarriedOver (f g : Format) (r : ℕ) (xs : List Frame) (w : List ℕ)
 pub data OutOfRange (from to request : ℕ) : Type 0 where
   no_source : ((f : Format) → from ≢ format_number f) → OutOfRange from to request
   no_target : ((g : Format) → to ≢ format_number g) → OutOfRange from to request
-  no_request : highest_mode < request → OutOfRange from to request
+  request_above : highest_mode < request → OutOfRange from to request
 
 -- of so many octets for so much room: "9 recording too long, .. about to be written; 10 lent output shorter than needed", in this order
 pub data WritingRefusal (size room : ℕ) : (n k at : ℕ) → Type 0 where

@@ -28,8 +28,8 @@ abbrev pub followed_by : Frame → Placed (List Frame) → Placed (List Frame)
 followed_by x (refused_at n k at) = refused_at n k at
 followed_by x (done xs) = done (x ∷ xs)
 
--- the frames in the octets: the next one has number k and begins at octet at. `skip` octets of the frame before are still to pass. "The
--- walk stops at the first refused frame"
+-- the frames in the octets, the first of which has the place at in the recording: skip octets of the frame before come first, and the next
+-- frame has number k. "The walk stops at the first refused frame"
 abbrev pub scan : Format → (skip k at : ℕ) → List ℕ → Placed (List Frame)
 scan f skip k at [] = done []
 scan f zero k at (o ∷ s) = placed (read_frame f (o ∷ s)) k at (λ y. followed_by y.0 (scan f (y.1 - 1) (suc k) (suc at) s))

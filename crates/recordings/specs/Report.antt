@@ -1,5 +1,5 @@
 -- The report (document 01, "Reception class and report").
-use Rattle.std.specs.Prelude.{◌≡◌, Bool, true, false, List, [], ◌∷◌, ℕ, ◌+◌, length, leb}
+use Rattle.std.specs.Prelude.{Bool, true, false, List, [], ◌∷◌, ℕ, ◌+◌, length, leb}
 use Rattle.bits.specs.Bits.{one_if}
 use Rattle.definitions.specs.Frames.{storage, Frame}
 use Rattle.definitions.specs.Reception.{Reception, speech, sid, speech_lost, no_data, frame_class}
@@ -62,7 +62,3 @@ report_of n xs = record {
 -- "A longer input is refusal 9"; then as in reading a recording
 unfoldable pub report_call : List ℕ → Placed Report
 report_call s = unless_at 9 (leb (length s) report_limit) (and_then_at (read_recording storage s) (λ xs. done (report_of (length s) xs)))
-
--- of a report: the four classes add up to the frames
-pub record AddsUp (report : List ℕ → Placed Report) : Type 0 where
-  pub sum : (s : List ℕ) (r : Report) → report s ≡ done r → r.speech + r.sid + r.speech_lost + r.no_data ≡ r.frames

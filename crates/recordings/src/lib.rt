@@ -10,9 +10,12 @@ ghost use Rattle.recordings.specs.ConversionClaims.{ConvertsFrames};
 ghost use Rattle.recordings.specs.Demand3.{Demand3, RestsOnDemand2};
 ghost use Rattle.recordings.specs.ThreeBits.{ThreeIsSharp};
 ghost use Rattle.recordings.specs.WrongConverters.{first_only, drops_last, inverts_d0, counts_one_more, wants_one_more};
-ghost use Rattle.recordings.specs.Viewer.{open_call, next_call, ViewsRecordings};
-ghost use Rattle.recordings.specs.WrongViewers.{passes_refused, skips_frames};
-ghost use Rattle.recordings.specs.Report.{report_call, AddsUp};
+ghost use Rattle.recordings.specs.Viewer.{open_call, next_call};
+ghost use Rattle.recordings.specs.ViewerClaims.{ViewsRecordings, ViewersAgree};
+ghost use Rattle.recordings.specs.WrongViewers.{passes_refused, skips_frames, numbers_none};
+ghost use Rattle.recordings.specs.Report.{report_call};
+ghost use Rattle.recordings.specs.ReportClaims.{AddsUp, Reports};
+ghost use Rattle.recordings.specs.WrongReports.{lost_before_reading, counts_as_speech};
 
 // Does nothing. Its contract: octets are read as frames exactly where they are the frames' recording, and each refusal comes on its condition and
 // on no other, with the place of the first refused frame; readers of which this is true answer the same; and a reader that always declines, one
@@ -45,13 +48,23 @@ pub fn three_bits_claim()
 {}
 
 // Does nothing. Its contract: a viewer that is opened hands out, over any number of calls, the recording's frames and then the end for ever,
-// or the frames in front of the first refused one and then that refusal for ever; opening and the calls refuse on their conditions only; and
-// that the viewer which goes on behind a refused frame, and the one which shows every second frame, do not.
+// or the frames in front of the first refused one and then that refusal for ever; each answer of opening and of a call comes on its condition
+// only, so that viewers of which this is true answer the same; and that the viewer which goes on behind a refused frame, the one which shows every
+// second frame, and the one which hands on number 0, are not such viewers.
 pub fn viewer_claim()
-    ensures { ViewsRecordings open_call next_call × (ViewsRecordings open_call passes_refused → ⊥) × (ViewsRecordings open_call skips_frames → ⊥) }
+    ensures { ViewsRecordings open_call next_call
+        × ViewersAgree
+        × (ViewsRecordings open_call passes_refused → ⊥)
+        × (ViewsRecordings open_call skips_frames → ⊥)
+        × (ViewsRecordings open_call numbers_none → ⊥) }
 {}
 
-// Does nothing. Its contract: in a report the four classes add up to the frames.
+// Does nothing. Its contract: in a report the four classes add up to the frames; the report of a recording counts its frames, and each refusal
+// comes on its condition only; and that the report which counts a lost frame before it reads, and the one which counts every frame as speech, do
+// not meet this.
 pub fn report_claim()
-    ensures { AddsUp report_call }
+    ensures { AddsUp report_call
+        × Reports report_call
+        × (Reports lost_before_reading → ⊥)
+        × (Reports counts_as_speech → ⊥) }
 {}
