@@ -17,8 +17,8 @@ ghost use Rattle.definitions.specs.WrongClassifiers.{sti_at_34, sti_before_quali
 ghost use Rattle.definitions.specs.Bench.{bench_answer, BenchCases};
 ghost use Rattle.definitions.specs.WrongAnswerers.{mode_low_bit_first, crc_of_whole_octets, if2_header_stored, no_added_one};
 
-// Does nothing. Its contract: demand 2 for a frame that is read where more may follow, each refusal on its condition, and what is no such
-// reader, as one that gives 7 where 5 applies.
+// Does nothing. Its contract: demand 2 for a frame that is read where more may follow, each refusal on its condition, and wrong
+// readers, such as one that gives 7 where 5 applies.
 pub fn reader_claim()
     ensures { ReadsFrames read_frame × RefusesFrames false read_frame × WrongReaders × WrongRefusals }
 {}
@@ -34,12 +34,12 @@ pub fn frame_call_claim()
     ensures { ReadsCalls read_call × RefusesCalls read_call × WrongCalls }
 {}
 
-// Does nothing. Its contract: layouts are prefix_free, and so injective; a layout without the quality is not.
+// Does nothing. Its contract: no layout begins another, so that layouts are injective; one without the quality is wrong.
 pub fn layout_claim()
     ensures { LayoutsDiffer layout × WrongLayouts }
 {}
 
-// Does nothing. Its contract: demand 2 for a call that builds a frame, each refusal on its condition, and what is no such builder.
+// Does nothing. Its contract: demand 2 for a call that builds a frame, each refusal on its condition, and wrong builders.
 pub fn builder_claim()
     ensures { BuildsFrames build_frame × RefusesBuilds build_frame × WrongBuilders }
 {}
@@ -50,7 +50,7 @@ pub fn answers_claim()
 {}
 
 // Does nothing. Its contract: the tables of codec order are permutations, each of the two calls undoes the other, the core's bits are the row's by
-// the table, each refusal comes on its condition, and what is no such order.
+// the table, each refusal comes on its condition, and wrong orders.
 pub fn order_claim()
     ensures { TablesPermute × OrdersBack to_core_call to_row_call × OrdersByTables to_core_call × RefusesOrders to_core_call to_row_call × WrongOrders }
 {}

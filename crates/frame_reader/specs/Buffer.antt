@@ -1,4 +1,4 @@
--- What a call that reads a frame promises of its answer and of the core's buffer, and what is found of a frame that is quickly read.
+-- What a call that reads a frame promises of its answer and of the core's buffer, and what the fast path for frames without mode fields finds.
 use Rattle.std.specs.Prelude.{◌≡◌, Bool, true, false, List, ℕ, ◌≤◌, length, drop, Result, Ok, Err}
 use Rattle.bits.specs.Bits.{num, bits}
 use Rattle.definitions.specs.Outcome.{Outcome, refused}
