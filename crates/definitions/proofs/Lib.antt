@@ -1,4 +1,4 @@
-mod Outcome
+pub mod Outcome
 pub mod Tables
 pub mod Frames
 pub mod Claims

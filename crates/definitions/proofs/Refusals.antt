@@ -52,7 +52,7 @@ none-from a k l i h b e o =
 
 -- ---- what a number says
 
-frame-number : (single : Bool) (f : Format) (s : List ℕ) (n : ℕ) → FrameFault single f s n → (1 ≤ n) × (n ≤ 7)
+pub frame-number : (single : Bool) (f : Format) (s : List ℕ) (n : ℕ) → FrameFault single f s n → (1 ≤ n) × (n ≤ 7)
 frame-number single f s n (FrameFault.no_octets e) = (omega arith, omega arith)
 frame-number single f s n (FrameFault.reserved_type e) = (omega arith, omega arith)
 frame-number single f s n (FrameFault.too_few e) = (omega arith, omega arith)
@@ -94,7 +94,7 @@ place-after if2 i h b = absurd (omega arith)
 place-after storage i h b = inr (omega arith, omega arith)
 
 -- 6: the fields
-fields-fail : (f : Format) (x : Frame) → (fields_good f x ≡ false) ↔ FieldFault f x
+pub fields-fail : (f : Format) (x : Frame) → (fields_good f x ≡ false) ↔ FieldFault f x
 unfolding fields_good
 fields-fail f x = (fails, λ z. false_from_ne_true _ (passes z))
   where
@@ -228,7 +228,7 @@ module _ (single : Bool) (f : Format) (s : List ℕ) where
 -- ---- reading
 
 -- the tests of a frame
-abbrev tests : (single : Bool) → Format → List ℕ → List (ℕ × Bool)
+abbrev pub tests : (single : Bool) → Format → List ℕ → List (ℕ × Bool)
 tests single f s =
     let bs : List Bool = bits s in
     let n : ℕ = octets f (type_in f bs) in
@@ -241,7 +241,7 @@ module _ (single : Bool) (f : Format) (s : List ℕ) (o : Octets s) (fault : ℕ
   one : (n : ℕ) (t : Bool) (ts : List (ℕ × Bool)) → 1 ≤ n → n ≤ 7 → (t ≡ false) ↔ FrameFault single f s n → Decides fault ts → Decides fault ((n, t) ∷ ts)
   one n t ts l m e d = also fault (n, t) ts ((λ h. (same n l m).1 (e.0 h)), (λ x. e.1 ((same n l m).0 x))) d
 
-  tests-decide : (ts : List (ℕ × Bool)) → Decides fault ts → Decides fault (tests single f s ++ ts)
+  pub tests-decide : (ts : List (ℕ × Bool)) → Decides fault ts → Decides fault (tests single f s ++ ts)
   tests-decide ts d =
       one 1 _ _ (omega arith) (omega arith) (length-fails single f s)
       (one 2 _ _ (omega arith) (omega arith) (type-fails single f s)
@@ -251,10 +251,10 @@ module _ (single : Bool) (f : Format) (s : List ℕ) (o : Octets s) (fault : ℕ
       (one 6 _ _ (omega arith) (omega arith) (field-fails single f s)
       (one 7 _ _ (omega arith) (omega arith) (crc-fails single f s o) d))))))
 
-abbrev of_frame : ℕ → Bool
+abbrev pub of_frame : ℕ → Bool
 of_frame n = leb 1 n && leb n 7
 
-frame-only : (single : Bool) (f : Format) (s : List ℕ) (n : ℕ) → FrameFault single f s n → of_frame n ≡ true
+pub frame-only : (single : Bool) (f : Format) (s : List ℕ) (n : ℕ) → FrameFault single f s n → of_frame n ≡ true
 frame-only single f s n x = let r = frame-number single f s n x in and_from _ _ (le-leb 1 n r.0) (le-leb n 7 r.1)
 
 pub refuses-frames : (single : Bool) → RefusesFrames single (read_with single)

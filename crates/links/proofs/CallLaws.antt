@@ -220,7 +220,7 @@ module _ (l : Link) (i : ℕ) (s₁ s₂ s₃ : List ℕ) (room : ℕ) where
         fields_are_good = u.fields;
       }
 
-  up-bad : (w : List ℕ) → up_call l 1 i s₁ s₂ s₃ room ≡ ok w → layout if1 no_data_bad ≡ w
+  pub up-bad : (w : List ℕ) → up_call l 1 i s₁ s₂ s₃ room ≡ ok w → layout if1 no_data_bad ≡ w
   unfolding up_call
   up-bad w h =
       let a = unless-ok 11 (leb i 63) _ w h in

@@ -1,5 +1,6 @@
 pub mod SetLaws
 pub mod CallLaws
 pub mod History
-mod WrongLinks
 pub mod ThereAndBack
+pub mod Refusals
+mod WrongLinks

@@ -15,16 +15,19 @@ use Rattle.definitions.specs.Outcome.{ok}
 use Rattle.definitions.specs.Frames.{if1, Frame, frame_by, known, core_bits, octets, header, fields_good, layout}
 use Rattle.definitions.specs.Reading.{read_with}
 use Rattle.definitions.specs.Claims.{Valid}
+use Rattle.definitions.specs.Refusals.{refusal_order, FirstOf}
 use Rattle.definitions.specs.Cases.{sid_update_frame}
+use Rattle.definitions.proofs.Outcome.{same_number, refuses-head, first-holds}
 use Rattle.recordings.specs.Conversion.{with_modes}
 use Rattle.links.specs.declared.Combination.{Combination}
 use Rattle.links.specs.declared.Link.{Link}
 use Rattle.links.specs.Sets.{combination, combination_good, set_good, rfc_set}
-use Rattle.links.specs.Calls.{link_by, fresh_link, assign_call, rate_call, up_call, nothing, request, split, down_call}
+use Rattle.links.specs.Calls.{link_by, fresh_link, assign_call, rate_call, no_data_bad, up_call, nothing, request, split, down_call}
 use Rattle.links.specs.History.{Call, assign, rate, up, down, frame, subflows, up_reply, down_reply, LinkProgram, after, RightLink, Remembers}
 use Rattle.links.specs.UpAndDown.{AnswersByRule}
 use Rattle.links.specs.ThereAndBack.{JoinedAgain, SplitAgain, ThereAndBack}
-use Rattle.links.specs.WrongLinks.{keeps_first, keeps_forwarded, records_refused, refuses_all, silent, forwards_silently, assigns_again, takes_any_rows, never_assigns, never_releases, releases_nothing, takes_any_mode, Splitting, down_with, splits_by, always_good, always_bad, type_for_rfci, bad_without_rfci, third_at_size_two, first_two_exchanged, second_left_out, never_joins, writes_no_request, WrongLinks}
+use Rattle.links.specs.Refusals.{link_order, AssignFault, UpFault, DownFault, RefusesLink}
+use Rattle.links.specs.WrongLinks.{keeps_first, keeps_forwarded, records_refused, refuses_all, silent, forwards_silently, assigns_again, takes_any_rows, never_assigns, never_releases, releases_nothing, takes_any_mode, Splitting, down_with, splits_by, always_good, always_bad, type_for_rfci, bad_without_rfci, third_at_size_two, first_two_exchanged, second_left_out, never_joins, writes_no_request, state_before_rows, refuses_bad_radio, judges_always, writes_lost, frame_before_state, WrongLinks}
 use Rattle.links.proofs.CallLaws.{subflows-replied, read-laid, down_takes, up_makes}
 
 -- 3 is stored, and 5 was said last
@@ -282,6 +285,51 @@ request_unwritten r =
     let e : ◌≡◌ {A = ℕ} 0 3 = ap (λ (x : Frame). x.request) x in
     omega arith
 
+-- ---- by what is refused, and by which number
+
+-- there is a set, and one number is no row
+rows_judged_late : RefusesLink state_before_rows → ⊥
+rows_judged_late r =
+    let rows : List ℕ = 0 ∷ [] in
+    let x = (r.assigns (sid_link 15) rows 15).0 refl in
+    let bad : AssignFault (sid_link 15) rows 11 = AssignFault.not_fives (λ e. omega (arith, e)) in
+    let e : ◌≡◌ {A = ℕ} 11 15 = same_number 11 15 ((refuses-head {A = ℕ} (AssignFault (sid_link 15) rows) 11 _ 15 bad).1 x) in
+    omega (arith, e)
+
+-- 13 is for FQC 3
+bad_radio_refused : RefusesLink refuses_bad_radio → ⊥
+bad_radio_refused r = reserved (first-holds (UpFault (sid_link 15) 2 1 [] [] [] 8) link_order 13 ((r.joins (sid_link 15) 2 1 [] [] [] 8 13).0 refl))
+  where
+    reserved : UpFault (sid_link 15) 2 1 [] [] [] 8 13 → ⊥
+    reserved (UpFault.fqc_reserved e) = omega (arith, e)
+
+-- three sub-flows without octets
+unread_judged : RefusesLink judges_always → ⊥
+unfolding up_call num combination_good core_bits octets fields_good
+unread_judged r = judged (first-holds (UpFault (sid_link 15) 1 1 [] [] [] 8) link_order 17 ((r.joins (sid_link 15) 1 1 [] [] [] 8 17).0 refl))
+  where
+    judged : UpFault (sid_link 15) 1 1 [] [] [] 8 17 → ⊥
+    judged (UpFault.subflow c f z x) = z refl
+
+-- 0xE0 and 0xF0 are other octets
+lost_written : RefusesLink writes_lost → ⊥
+unfolding up_call odd digits num packs pack header layout combination_good core_bits octets fields_good
+lost_written r =
+    let lost : List ℕ = layout if1 (frame_by 14 0 0 0 []) in
+    let h : frame lost ≡ frame (layout if1 no_data_bad) =
+    r.no_data (sid_link 15) 1 [] [] [] 8 (λ n e. absurd (let z : ◌≡◌ {A = ℕ} 0 1 = cc in omega arith)) in
+    let w : lost ≡ layout if1 no_data_bad = cc in
+    let e : ◌≡◌ {A = ℕ} 224 240 = ap (λ s. get_or s 0 0) w in
+    omega (arith, e)
+
+-- there is no set, and there are no octets
+set_judged_late : RefusesLink frame_before_state → ⊥
+unfolding read_with
+set_judged_late r = late ((r.splits fresh_link [] 0 0 0 1 (λ i. omega arith)).0 refl)
+  where
+    late : FirstOf (DownFault fresh_link [] 0 0 0) refusal_order 1 → ⊥
+    late (FirstOf.later z (FirstOf.later y x)) = y (DownFault.no_set refl)
+
 pub wrong_links : WrongLinks
 wrong_links = record {
   first_kept = first_kept;
@@ -306,4 +354,9 @@ wrong_links = record {
   second_missing = second_missing;
   never_joined = never_joined;
   request_unwritten = request_unwritten;
+  rows_judged_late = rows_judged_late;
+  bad_radio_refused = bad_radio_refused;
+  unread_judged = unread_judged;
+  lost_written = lost_written;
+  set_judged_late = set_judged_late;
 }

@@ -91,7 +91,7 @@ all_said = map (λ e. said e.0 e.1)
 abbrev pub replies : Replied → List Reply
 replies = map (λ e. e.1)
 
--- "what the last accepted assign or release says"
+-- the set: that of the last accepted Assign, none after an accepted Release or before any
 abbrev pub set_said : List Said → List Combination
 set_said [] = []
 set_said (assigned cs ∷ es) = cs
@@ -100,7 +100,7 @@ set_said (commanded m ∷ es) = set_said es
 set_said (received t r ∷ es) = set_said es
 set_said (unsaid ∷ es) = set_said es
 
--- "the last accepted rate command's (0 before any)"
+-- the stored request: that of the last accepted Rate command, 0 before any
 abbrev pub request_said : List Said → ℕ
 request_said [] = 0
 request_said (assigned cs ∷ es) = request_said es
@@ -109,7 +109,7 @@ request_said (commanded m ∷ es) = m
 request_said (received t r ∷ es) = request_said es
 request_said (unsaid ∷ es) = request_said es
 
--- "that of the last accepted down of type 0 to 9"
+-- the last request forwarded: that of the last accepted Down of types 0 to 9, none before any
 abbrev pub forwarded_said : List Said → ℕ
 forwarded_said [] = no_request
 forwarded_said (assigned cs ∷ es) = forwarded_said es

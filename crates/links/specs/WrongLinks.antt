@@ -1,17 +1,18 @@
--- Links that are not document 01's, and the claim of History.antt, UpAndDown.antt or ThereAndBack.antt that each fails. Nothing of document
--- 01 is defined here.
+-- Links that are not document 01's, and the claim of History.antt, UpAndDown.antt, ThereAndBack.antt or Refusals.antt that each fails. Nothing
+-- of document 01 is defined here.
 use Rattle.std.specs.Prelude.{true, cond, List, [], ℕ, eqb, take, drop}
 use Rattle.bits.specs.Bits.{pack}
 use Rattle.definitions.specs.Outcome.{Outcome, refused, ok, unless, and_then}
-use Rattle.definitions.specs.Frames.{if1, Frame}
+use Rattle.definitions.specs.Frames.{if1, speech_lost_type, Frame, frame_by, layout}
 use Rattle.definitions.specs.Reading.{read_with}
 use Rattle.links.specs.declared.Combination.{Combination}
 use Rattle.links.specs.declared.Link.{Link}
-use Rattle.links.specs.Calls.{no_request, link_by, fresh_link, has_set, in_fives, rate_call, up_call, Forward, nothing, Down, split, roomy, recorded, down_call, down_after}
-use Rattle.links.specs.Sets.{combinations, rfc_set, by_type, lookup}
+use Rattle.links.specs.Calls.{no_request, link_by, fresh_link, has_set, in_fives, rate_call, subflows_good, up_call, Forward, nothing, Down, split, roomy, recorded, down_call, down_after}
+use Rattle.links.specs.Sets.{combinations, rfc_set, by_rfci, by_type, lookup}
 use Rattle.links.specs.History.{assign, release, rate, up, down, Reply, refusal, accepted, subflows, move_reply, up_reply, down_reply, LinkProgram, link_step, Remembers}
 use Rattle.links.specs.UpAndDown.{AnswersByRule}
 use Rattle.links.specs.ThereAndBack.{ThereAndBack}
+use Rattle.links.specs.Refusals.{RefusesLink}
 
 abbrev pub down_by : (fqc rfci : ℕ) → (s₁ s₂ s₃ : List ℕ) → Forward → Down
 down_by q i s₁ s₂ s₃ f = record { fqc = q; rfci = i; flow1 = s₁; flow2 = s₂; flow3 = s₃; forward = f }
@@ -145,6 +146,41 @@ abbrev pub writes_no_request : LinkProgram
 writes_no_request l (up q i s₁ s₂ s₃ room) = (up_reply (up_call (link_by l.set 0 l.forwarded) q i s₁ s₂ s₃ room), l)
 writes_no_request l c = link_step l c
 
+-- ---- by what is refused, and by which number
+
+-- one whose Assign judges the state before the rows: 15 for 11
+abbrev pub state_before_rows : LinkProgram
+state_before_rows l (assign ns) = cond (has_set l) (refusal 15, l) (link_step l (assign ns))
+state_before_rows l c = link_step l c
+
+-- one whose Up refuses FQC 2 as the reserved one
+abbrev pub refuses_bad_radio : LinkProgram
+refuses_bad_radio l (up q i s₁ s₂ s₃ room) = cond (eqb q 2) (refusal 13, l) (link_step l (up q i s₁ s₂ s₃ room))
+refuses_bad_radio l c = link_step l c
+
+-- one whose Up judges the sub-flows at every FQC, 1 included
+abbrev pub always_judged : Link → (fqc rfci : ℕ) → (s₁ s₂ s₃ : List ℕ) → (room : ℕ) → Outcome (List ℕ)
+always_judged l q i s₁ s₂ s₃ room =
+    and_then (lookup by_rfci i (combinations l.set)) (λ c. unless 17 (subflows_good c s₁ s₂ s₃) (up_call l q i s₁ s₂ s₃ room))
+
+abbrev pub judges_always : LinkProgram
+judges_always l (up q i s₁ s₂ s₃ room) = (up_reply (and_then (up_call l q i s₁ s₂ s₃ room) (λ w. always_judged l q i s₁ s₂ s₃ room)), l)
+judges_always l c = link_step l c
+
+-- one whose Up writes a frame of type 14 for FQC 1
+abbrev pub writes_lost : LinkProgram
+writes_lost l (up q i s₁ s₂ s₃ room) =
+    (up_reply (and_then (up_call l q i s₁ s₂ s₃ room) (λ w. ok (cond (eqb q 1) (layout if1 (frame_by speech_lost_type 0 0 0 [])) w))), l)
+writes_lost l c = link_step l c
+
+-- one whose Down judges the frame before the state: 1 for 14
+abbrev pub frame_first : Link → List ℕ → (room₁ room₂ room₃ : ℕ) → Outcome Down
+frame_first l s m₁ m₂ m₃ = and_then (read_with true if1 s) (λ y. down_call l s m₁ m₂ m₃)
+
+abbrev pub frame_before_state : LinkProgram
+frame_before_state l (down s m₁ m₂ m₃) = (down_reply (frame_first l s m₁ m₂ m₃), down_after (frame_first l s m₁ m₂ m₃) l)
+frame_before_state l c = link_step l c
+
 -- ---- the claim
 
 -- each of them, and the claim that it fails
@@ -171,3 +207,8 @@ pub record WrongLinks : Type 0 where
   pub second_missing : ThereAndBack (splits_by second_left_out) → ⊥
   pub never_joined : ThereAndBack never_joins → ⊥
   pub request_unwritten : ThereAndBack writes_no_request → ⊥
+  pub rows_judged_late : RefusesLink state_before_rows → ⊥
+  pub bad_radio_refused : RefusesLink refuses_bad_radio → ⊥
+  pub unread_judged : RefusesLink judges_always → ⊥
+  pub lost_written : RefusesLink writes_lost → ⊥
+  pub set_judged_late : RefusesLink frame_before_state → ⊥

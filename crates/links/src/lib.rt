@@ -9,6 +9,7 @@ ghost use Rattle.links.specs.Calls.{fresh_link};
 ghost use Rattle.links.specs.History.{link_step, Remembers};
 ghost use Rattle.links.specs.UpAndDown.{AnswersByRule};
 ghost use Rattle.links.specs.ThereAndBack.{ThereAndBack};
+ghost use Rattle.links.specs.Refusals.{RefusesLink};
 ghost use Rattle.links.specs.WrongLinks.{WrongLinks};
 
 use frame::Refusal;
@@ -96,7 +97,7 @@ pub fn answers_claim()
 {}
 
 // Does nothing. Its contract: wrong links do not meet these claims: one that keeps its first request, one that keeps the first that it
-// forwarded, one that records and does not say so, and others.
+// forwarded, one that records and does not say so, one that answers 15 for 11, and others.
 pub fn wrong_links_claim()
     ensures { WrongLinks }
 {}
@@ -104,4 +105,10 @@ pub fn wrong_links_claim()
 // Does nothing. Its contract: Up joins what Down split, and Down splits what Up joined, for any sizes.
 pub fn there_and_back_claim()
     ensures { ThereAndBack link_step }
+{}
+
+// Does nothing. Its contract: in any state each call is refused by the first number whose condition holds, and by no other; and with FQC 1
+// an Up that is not refused writes a frame of type 15 and quality 0, whatever the sub-flows are.
+pub fn refusals_claim()
+    ensures { RefusesLink link_step }
 {}
