@@ -144,18 +144,18 @@ module _ (k : ℕ) (table : List ℕ) (p : Permutes k table) where
 
 -- ---- rows
 
-bits-row : (s : List Bool) → row_bits (row_octets s) ≡ s
+pub bits-row : (s : List Bool) → row_bits (row_octets s) ≡ s
 bits-row [] = refl
 bits-row (true ∷ s) = ap (λ l. true ∷ l) (bits-row s)
 bits-row (false ∷ s) = ap (λ l. false ∷ l) (bits-row s)
 
-row-bits : (row : List ℕ) → zero_or_one row ≡ true → row_octets (row_bits row) ≡ row
+pub row-bits : (row : List ℕ) → zero_or_one row ≡ true → row_octets (row_bits row) ≡ row
 row-bits [] h = refl
 row-bits (zero ∷ row) h = ap (λ l. 0 ∷ l) (row-bits row h)
 row-bits (suc zero ∷ row) h = ap (λ l. 1 ∷ l) (row-bits row h)
 row-bits (suc (suc o) ∷ row) h = absurd (omega (arith, leb-true (suc (suc o)) 1 (and_left (leb (suc (suc o)) 1) (zero_or_one row) h)))
 
-row-good : (s : List Bool) → zero_or_one (row_octets s) ≡ true
+pub row-good : (s : List Bool) → zero_or_one (row_octets s) ≡ true
 row-good [] = refl
 row-good (true ∷ s) = row-good s
 row-good (false ∷ s) = row-good s
@@ -174,7 +174,7 @@ unfolding to_row_call
 to_row-ok m core room h l v r = rw (le-leb m 8 (omega arith), eq-eqb _ _ l, v, le-leb m 4 h, le-leb _ _ r)
 
 -- a packed core is its bits, and its filling is 0
-core-bits : (m : ℕ) (d : List Bool) → length d ≡ core_bits m
+pub core-bits : (m : ℕ) (d : List Bool) → length d ≡ core_bits m
     → (length (pack d) ≡ core_octets m) × (core_fill_clear m (pack d) ≡ true) × (buffer_core (pack d) m ≡ d)
 core-bits m d l =
     let b = bits-core d in (

@@ -1,20 +1,25 @@
--- A wrong call is asked for a row of mode 0; a number that stands twice is at two places, where `place-only` says one. Assumes nothing.
-use mathlib.Core.Path.{◌≡◌, refl, ap}
+-- A wrong call is asked for a row of mode 0; a number that stands twice is at two places, where `place-only` says one. Two calls that keep the row's
+-- order undo one another as ours do, only with no table between. Assumes nothing.
+use mathlib.Core.Path.{◌≡◌, refl, sym, ap, ◌∙◌}
 use mathlib.Core.Bool.{true, false, true≢false}
 use mathlib.Core.List.{List, ◌∷◌}
 use Prim.Native.Nat.{ℕ, zero, suc, ◌≤◌, ◌<◌}
 use native.Mathlib.Omega.{arith}
-use lib.ListN.{get_or, replicate}
-use borrow.Author.Tests.{leb-false}
-use Rattle.bits.specs.Bits.{odd, digits, num, bits, packs, pack}
-use Rattle.definitions.specs.Frames.{core_bits}
+use lib.Dec.{eqb}
+use lib.ListN.{length, get_or, replicate, length-map}
+use borrow.Author.Tests.{leb-false, le-leb, eq-eqb}
+use Rattle.bits.specs.Bits.{one_if, odd, digits, num, bits, packs, pack}
+use Rattle.definitions.specs.Outcome.{ok}
+use Rattle.definitions.specs.Frames.{core_bits, core_octets}
+use Rattle.definitions.specs.Reading.{buffer_core, core_fill_clear}
 use Rattle.definitions.specs.Tables.{table0}
-use Rattle.definitions.specs.Claims.{times, Permutes}
-use Rattle.definitions.specs.Order.{order_table, place_of, ordered}
+use Rattle.definitions.specs.Claims.{times, Permutes, OrdersBack}
+use Rattle.definitions.specs.Order.{order_table, zero_or_one, row_bits, row_octets, place_of, ordered}
 use Rattle.definitions.specs.Refusals.{refusal_order, ToCoreFault, ToRowFault}
-use Rattle.definitions.specs.WrongOrders.{order_kept, WrongOrders}
+use Rattle.definitions.specs.WrongOrders.{order_kept, row_kept, WrongOrders}
 use Rattle.definitions.proofs.Outcome.{first-holds}
-use Rattle.definitions.proofs.Order.{place-only}
+use Rattle.definitions.proofs.Claims.{packed_core}
+use Rattle.definitions.proofs.Order.{place-only, bits-row, row-bits, row-good, core-bits}
 use Rattle.definitions.proofs.OrderRefusals.{to_core-room, to_row-room}
 
 -- two rows of mode 0
@@ -43,6 +48,33 @@ twice k table i j h l e p =
     let at : (n : ℕ) → n < k → times (get_or table n 0) table ≤ 1 = λ n m. omega (arith, p.once (get_or table n 0) (p.below n m)) in
     omega (arith, place-only table i (omega (arith, p.whole)) (at i (omega arith)), place-only table j (omega (arith, p.whole)) (at j l), ap (λ n. place_of n table) e)
 
+-- ---- calls that keep the row's order
+
+kept-ok : (m : ℕ) (row : List ℕ) (room : ℕ) → m ≤ 4 → length row ≡ core_bits m → zero_or_one row ≡ true → core_octets m ≤ room
+    → order_kept m row room ≡ ok (pack (row_bits row))
+unfolding order_kept
+kept-ok m row room h l v r = rw (le-leb m 8 (omega arith), eq-eqb _ _ l, v, le-leb m 4 h, le-leb _ _ r)
+
+back-ok : (m : ℕ) (core : List ℕ) (room : ℕ) → m ≤ 4 → length core ≡ core_octets m → core_fill_clear m core ≡ true → core_bits m ≤ room
+    → row_kept m core room ≡ ok (row_octets (buffer_core core m))
+unfolding row_kept
+back-ok m core room h l v r = rw (le-leb m 8 (omega arith), eq-eqb _ _ l, v, le-leb m 4 h, le-leb _ _ r)
+
+kept_back_lem : OrdersBack order_kept row_kept
+kept_back_lem = record {
+  row_back = λ m row room room' h l v r r'.
+      let s = row_bits row in
+      let c = core-bits m s (length-map row (eqb 1) ∙ l) in
+      (pack s, kept-ok m row room h l v r, back-ok m (pack s) room' h c.0 c.1 r' ∙ ap ok (ap row_octets c.2 ∙ row-bits row v));
+  core_back = λ m core room room' h o l v r r'.
+      let s = buffer_core core m in
+      let c = packed_core (core_bits m) core o l v in (
+        row_octets s,
+        back-ok m core room h l v r,
+        kept-ok m (row_octets s) room' h (length-map s one_if ∙ c.0) (row-good s) r' ∙ ap ok (ap pack (bits-row s) ∙ sym c.1),
+      );
+}
+
 pub wrong_orders : WrongOrders
 unfolding core_bits bits digits odd num pack packs order_table table0 ordered order_kept
 wrong_orders = record {
@@ -66,6 +98,7 @@ wrong_orders = record {
       let r : core_of 0 ≡ core_of 128 = cc in
       let z : ◌≡◌ {A = ℕ} 0 128 = ap (λ l. get_or l 0 0) r in
       omega arith;
+  kept_back = kept_back_lem;
   keeps_order = λ claim.
       let e : true ≡ false = claim.bit 0 second_set _ 17 1 (omega arith) refl (omega arith) in
       true≢false e;
