@@ -58,6 +58,7 @@ static const uint8_t *in = (const uint8_t *)"";
 static size_t in_len;
 static uint8_t *out;
 static size_t out_len;
+static amrwb_consoles consoles;
 static amrwb_link state;
 static uint64_t rows[5 * (PLACES + 1)];
 static size_t rows_len;
@@ -80,20 +81,23 @@ RUN(order_to_row, n[0], in, in_len, out, out_len)
 RUN(view_open, n[0], in, in_len)
 RUN(view_next, n[0], n[1], n[2], in, in_len, out, out_len)
 RUN(report, in, in_len)
+RUN(consoles_add, consoles, n[0])
+RUN(consoles_slot, consoles)
 RUN(link_assign, state, rows, rows_len)
 RUN(link_release, state)
 RUN(link_rate, state, n[0])
 RUN(link_up, state, n[0], n[1], flows[0], flow_lens[0], flows[1], flow_lens[1], flows[2], flow_lens[2], out, out_len)
 RUN(link_down, state, in, in_len, flows[0], flow_lens[0], flows[1], flow_lens[1], flows[2], flow_lens[2])
 
-/* Is never refused; a fresh link's count is 0. */
+/* Are never refused; fresh consoles' next and a fresh link's count are 0. */
+static void run_consoles_fresh(void) { refusal = ((__typeof__(&amrwb_consoles_fresh))target)().next; }
 static void run_link_fresh(void) { refusal = ((__typeof__(&amrwb_link_fresh))target)().set.count; }
 
 typedef struct {
     const char *name;
     function library, run;
     uint32_t refusals; /* bit i: refusal i is to be met; bit 0: a call that is not refused */
-    size_t words;      /* arguments of eight octets, with the answer's address */
+    size_t words;      /* arguments of eight octets, with the answer's address; consoles are two */
     size_t link;       /* octets of the link handed over by value */
     size_t answer;     /* octets of the answer */
     uint32_t met;      /* as refusals */
@@ -108,7 +112,8 @@ typedef struct {
 
 enum {
     VALIDATE, CONVERT, CONVERT_LENGTH, READ_FRAME, BUILD_IF1, BUILD_IF2, BUILD_STORED, CLASS, ORDER_TO_CORE, ORDER_TO_ROW, VIEW_OPEN,
-    VIEW_NEXT, REPORT, LINK_FRESH, LINK_ASSIGN, LINK_RELEASE, LINK_RATE, LINK_UP, LINK_DOWN, CALLS
+    VIEW_NEXT, REPORT, CONSOLES_FRESH, CONSOLES_ADD, CONSOLES_SLOT, LINK_FRESH, LINK_ASSIGN, LINK_RELEASE, LINK_RATE, LINK_UP, LINK_DOWN,
+    CALLS
 };
 
 static call calls[CALLS] = {
@@ -125,6 +130,9 @@ static call calls[CALLS] = {
     CALL(view_open, R(0) | R(8) | R(9) | R(11), 4, 0, amrwb_view),
     CALL(view_next, R(0) | IN_FRAME | R(10) | R(11), 8, 0, amrwb_view),
     CALL(report, R(0) | R(2) | R(3) | R(5) | R(6) | R(8) | R(9), 3, 0, amrwb_counts),
+    CALL(consoles_fresh, R(0), 0, 0, amrwb_consoles),
+    CALL(consoles_add, R(0) | R(11) | R(27), 4, 0, amrwb_consoles_answer),
+    CALL(consoles_slot, R(0), 3, 0, amrwb_consoles_answer),
     CALL(link_fresh, R(0), 1, 0, amrwb_link),
     CALL(link_assign, R(0) | R(11) | R(15), 3, sizeof(amrwb_link), amrwb_link_answer),
     CALL(link_release, R(0) | R(14), 1, sizeof(amrwb_link), amrwb_link_answer),
@@ -413,6 +421,30 @@ static void orders(void) {
     }
 }
 
+/* Frames added from a fresh state until every console is full and served until none waits, and states that no call answers. Console 8 is out
+ * of range. */
+static void slots(void) {
+    measure(CONSOLES_FRESH);
+    consoles = amrwb_consoles_fresh();
+    for (int i = 0; i < 9 * 101; i++) {
+        n[0] = i % 9;
+        measure(CONSOLES_ADD);
+        measure(CONSOLES_SLOT);
+        consoles = amrwb_consoles_add(consoles, n[0]).consoles;
+    }
+    for (int i = 0; i <= 8 * 100; i++) {
+        measure(CONSOLES_SLOT);
+        consoles = amrwb_consoles_slot(consoles).consoles;
+    }
+    for (int i = 0; i < 100; i++) {
+        for (size_t j = 0; j < sizeof consoles; j++)
+            ((uint8_t *)&consoles)[j] = chance();
+        n[0] = i % 9;
+        measure(CONSOLES_ADD);
+        measure(CONSOLES_SLOT);
+    }
+}
+
 /* A set of all types, by a way to split a core. */
 static void make_set(int split) {
     rows_len = 5 * PLACES;
@@ -552,6 +584,7 @@ int main(int argc, char **argv) {
     builders();
     classes();
     orders();
+    slots();
     assigns();
     links();
     int wrong = 0;

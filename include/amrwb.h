@@ -1,7 +1,7 @@
-/* The AMR-WB voice adapter's C interface: whole recordings, one frame, the reception class, the codec's bit order, a viewer, the report and
- * the link to a radio network. Three static libraries have it, of which a host links one: level one has the calls for recordings and for one
- * frame, with formats 1 and 2; level two has these with formats 1 to 3, and every other call but the link's; level three has all. They need
- * no C library but for memcpy and memset.
+/* The AMR-WB voice adapter's C interface: whole recordings, one frame, the reception class, the codec's bit order, a viewer, the report, eight
+ * consoles that share one adapter, and the link to a radio network. Three static libraries have it, of which a host links one: level one has
+ * the calls for recordings and for one frame, with formats 1 and 2; level two has these with formats 1 to 3, and every other call but the
+ * link's; level three has all. They need no C library but for memcpy and memset.
  *
  * Octets are lent as a pointer and a length; a length of 0 may come with any pointer that is not null. The lent buffers of one call
  * must not overlap. No call keeps a pointer, uses the heap or fails in another way than by its answer.
@@ -17,12 +17,13 @@
  *   11 another argument out of its range                        12 codec order of modes 5 to 8   13 FQC 3
  *   14 the link has no set                                      15 the link has a set            16 RFCI or type not in the set
  *   17 a sub-flow's buffer with another length than its octets, or with a filling bit 1
- * Where several apply, the one that comes first in this order is given: 11, 14, 15, 9 for what is read, 8, the first refused frame by 1 to 7,
- * 12, 13, 16, 17, 6 for the mode of a SID frame that the link makes, 9 for what would be written, 10. 1 and 4 come in a call for one frame
- * only, 8 and 9 in a call for a recording only, 13 to 17 in the link's only. At 2 to 7 in a recording, frame counts its frames from 0, and
- * octet is the place of that frame's first octet, from 0 at the recording's start, header included; else both are 0. At a refusal every
- * other field is 0, but for offset and number of amrwb_view_next and for link, which stay as given, and no lent octet is changed. Otherwise
- * octets of a buffer beyond the written ones stay.
+ *   27 a console already has 100 frames waiting
+ * Where several apply, the one that comes first in this order is given: 11, 27, 14, 15, 9 for what is read, 8, the first refused frame by 1 to
+ * 7, 12, 13, 16, 17, 6 for the mode of a SID frame that the link makes, 9 for what would be written, 10. 1 and 4 come in a call for one frame
+ * only, 8 and 9 in a call for a recording only, 13 to 17 in the link's only, 27 in the consoles' only. At 2 to 7 in a recording, frame counts
+ * its frames from 0, and octet is the place of that frame's first octet, from 0 at the recording's start, header included; else both are 0. At
+ * a refusal every other field is 0, but for offset and number of amrwb_view_next, consoles and link, which stay as given, and no lent octet is
+ * changed. Otherwise octets of a buffer beyond the written ones stay.
  *
  * A frame type is 0 to 9, 14 or 15; quality is the FQI (0 bad, 1 good); indication and request are modes, 0 to 8. A core is packed:
  * d(0) is the top bit of its first octet, and filling bits are 0. Type 0 to 9 has 17, 23, 32, 36, 40, 46, 50, 58, 60, 5 octets
@@ -147,6 +148,37 @@ amrwb_view amrwb_view_next(uint64_t format, uint64_t offset, uint64_t number, co
 /* Reads the stored recording rec to its end, and counts its frames by class. 9 for more than 65,536 octets here; 8; the first refused frame
  * by 2, 3, 5, 6. */
 amrwb_counts amrwb_report(const uint8_t *rec, size_t len);
+
+/* Level two: eight consoles, numbered from 0, share one adapter, which has room for one frame in each slot. The host calls
+ * amrwb_consoles_add for each new frame of a console, and amrwb_consoles_slot once in each slot; where served is 1 it takes one frame from that
+ * console. Only counts are kept: the frames stay with their consoles. The state is the host's to keep: each call takes it by value and answers
+ * the next one, which is the same where the call is refused or nobody waits. */
+
+/* waiting[i] frames wait at console i, in a state that a call answered at most 100; next is the console at which the next slot begins to look.
+ * A state that no call answered is safe to hand in: next counts modulo 8, and a console with more than 100 is full, and served like any
+ * other. */
+typedef struct {
+    uint8_t waiting[8];
+    uint8_t next;
+} amrwb_consoles;
+
+typedef struct {
+    uint64_t refusal, frame, octet;
+    uint64_t served;  /* 1 where a console was served, else 0 */
+    uint64_t console; /* that console, else 0 */
+    amrwb_consoles consoles;
+} amrwb_consoles_answer;
+
+/* Nothing waits, and the first slot begins with console 0. */
+amrwb_consoles amrwb_consoles_fresh(void);
+
+/* Takes in a frame of a console: one more waits there, and next stays. 11 for a console above 7; 27 where 100 or more wait there. */
+amrwb_consoles_answer amrwb_consoles_add(amrwb_consoles consoles, uint64_t console);
+
+/* Serves the first console with a frame waiting, from next on around the ring: one frame fewer waits there, and next becomes the console after
+ * it (0 after 7), so that the one served last comes last. So a console with a frame waiting is served within eight slots. With nobody waiting
+ * served is 0 and the state stays. Never refused. */
+amrwb_consoles_answer amrwb_consoles_slot(amrwb_consoles consoles);
 
 /* Level three: the link to a radio network. Its state is the host's to keep: each call takes it by value and answers the next one, which is
  * the same where the call is refused. */

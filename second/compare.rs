@@ -1,13 +1,15 @@
 //! Compares the compiled, proved libraries of all three levels with the second program: the answer, every lent octet (buffers hold a
-//! pattern before the call) and the link's state. Each input is handed to every level that has the call.
+//! pattern before the call) and the next state of the consoles or the link. Each input is handed to every level that has the call.
 //!     compare CALLS SEED                 until so many calls are compared, a quarter of them the link's
 //!     compare --seconds SECONDS [SEED]   for so many seconds; without a seed, by the clock's
+mod compare_consoles;
 mod compare_frames;
 mod compare_links;
 mod compare_order;
 mod compare_recordings;
 mod compare_reports;
 mod compare_views;
+mod consoles;
 mod frame;
 mod library;
 mod link;
@@ -24,6 +26,7 @@ mod report;
 mod tally;
 mod view;
 
+use compare_consoles::ConsoleLists;
 use compare_links::Links;
 use compare_views::Views;
 use order::Order;
@@ -61,19 +64,20 @@ struct Comparison {
     tally: Tally,
     order: Order,
     views: Views,
+    consoles: ConsoleLists,
     links: Links,
 }
 
 impl Comparison {
     fn new(seed: u64) -> Comparison {
         let (tally, views) = (Tally::default(), Views::default());
-        Comparison { g: Random::new(seed), tally, order: Order::new(), views, links: Links::new() }
+        Comparison { g: Random::new(seed), tally, order: Order::new(), views, consoles: ConsoleLists::new(), links: Links::new() }
     }
 
     /// One input by chance, in every level that has its call; true where all agree.
     fn compare(&mut self) -> bool {
         let (g, tally) = (&mut self.g, &mut self.tally);
-        match g.below(35) {
+        match g.below(38) {
             0..=2 => compare_frames::compare_read(g, tally),
             3..=5 => compare_frames::compare_build(g, tally),
             6 => compare_frames::compare_class(g, tally),
@@ -81,6 +85,7 @@ impl Comparison {
             11..=12 => compare_order::compare(g, tally, &self.order),
             13 => self.views.compare(g, tally),
             14 => compare_reports::compare(g, tally),
+            15..=17 => self.consoles.compare(g, tally),
             _ => self.links.compare(g, tally),
         }
     }
@@ -89,6 +94,7 @@ impl Comparison {
     fn compare_fixed(&mut self) -> bool {
         let tally = &mut self.tally;
         Links::new().compare_fixed(tally)
+            && ConsoleLists::new().compare_fixed(tally)
             && compare_order::compare_encoder(tally, &self.order)
             && compare_reports::compare_limits(tally)
             && compare_recordings::compare_limits(tally)
@@ -97,7 +103,7 @@ impl Comparison {
 
     /// Prints what came; false where the answers are not all the possible ones, or some kind of input never came.
     fn show(&self) -> bool {
-        self.tally.show() & self.views.show() & self.links.show() & self.g.show()
+        self.tally.show() & self.views.show() & self.consoles.show() & self.links.show() & self.g.show()
     }
 }
 

@@ -7,7 +7,7 @@ use crate::random::{written, Random};
 use crate::random_frames::right_frame;
 use crate::random_links::{combination, right_set, strange_link, wrong_set, EXAMPLES, LINK_TYPES};
 use crate::random_links::{some_fqc, some_frame, some_frame_room, some_rfci, some_rooms, some_subflows};
-use crate::tally::{Refusals, Tally};
+use crate::tally::{agree, Refusals, Tally};
 
 /// The level that has the link.
 const LEVEL: usize = 3;
@@ -64,7 +64,7 @@ impl Links {
     fn begin(&mut self, g: &mut Random, tally: &mut Tally) -> bool {
         self.strange = g.one_in(2);
         if self.strange {
-            g.kind("list of calls from a state that no call gave");
+            g.kind("list of link calls from a state that no call gave");
             self.left = 1 + g.below(8);
             self.link = strange_link(g);
             return true;
@@ -264,12 +264,4 @@ fn down_fields(done: &Result<Down, u64>) -> [u64; 10] {
             [0, 0, 0, done.fqc, done.rfci, n1, n2, n3, forwarded, done.forwarded.unwrap_or(0)]
         }
     }
-}
-
-/// Prints what is wrong, if something is.
-fn agree(same: bool, wrong: impl FnOnce() -> String) -> bool {
-    if !same {
-        println!("{}", wrong());
-    }
-    same
 }

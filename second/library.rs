@@ -1,4 +1,5 @@
 //! The three levels' libraries, linked at once: tests/build makes copies of their archives in which every name begins with its level's.
+use crate::consoles::Consoles;
 use crate::link::Link;
 
 #[link(name = "one", kind = "static")]
@@ -32,6 +33,13 @@ answer!(FrameAnswer[8] { refusal, frame, octet, ftype, quality, indication, requ
 answer!(ClassAnswer[4] { refusal, frame, octet, class });
 answer!(View[12] { refusal, frame, octet, end, ftype, quality, indication, request, core_octets, offset, number, class });
 answer!(Counts[9] { refusal, frame, octet, octets, frames, speech, comfort, lost, empty });
+answer!(ConsolesFields[5] { refusal, frame, octet, served, console });
+
+#[repr(C)]
+pub struct ConsolesAnswer {
+    pub fields: ConsolesFields,
+    pub consoles: Consoles,
+}
 
 #[repr(C)]
 pub struct LinkAnswer {
@@ -94,6 +102,12 @@ calls!(TwoCalls, TWO_CALLS: ["two_amrwb_", "three_amrwb_"], {
     report(*const u8, usize) -> Counts;
 });
 
+calls!(ConsoleCalls, CONSOLE_CALLS: ["two_amrwb_consoles_", "three_amrwb_consoles_"], {
+    fresh() -> Consoles;
+    add(Consoles, u64) -> ConsolesAnswer;
+    slot(Consoles) -> ConsolesAnswer;
+});
+
 calls!(LinkCalls, LINK_CALLS: ["three_amrwb_link_"], {
     fresh() -> Link;
     assign(Link, *const u64, usize) -> LinkAnswer;
@@ -111,6 +125,11 @@ pub fn one_calls() -> impl Iterator<Item = (usize, &'static OneCalls)> {
 /// The calls that level two adds, in its library and in level three's.
 pub fn two_calls() -> impl Iterator<Item = (usize, &'static TwoCalls)> {
     (2..).zip(TWO_CALLS)
+}
+
+/// The calls of the consoles, in level two's library and in level three's.
+pub fn console_calls() -> impl Iterator<Item = (usize, &'static ConsoleCalls)> {
+    (2..).zip(CONSOLE_CALLS)
 }
 
 pub fn link_calls() -> &'static LinkCalls {

@@ -6,7 +6,7 @@ use std::collections::BTreeMap;
 pub const TYPES: [u64; 12] = [0, 1, 2, 3, 4, 5, 6, 7, 8, 9, 14, 15];
 
 /// The kinds of octets, and of lists of calls, that must come.
-const KINDS: [&str; 24] = [
+const KINDS: [&str; 26] = [
     "right frame",
     "frame with one bit changed",
     "frame cut",
@@ -30,7 +30,9 @@ const KINDS: [&str; 24] = [
     "core or row of another length",
     "sub-flow of another length",
     "list of calls from a fresh link",
-    "list of calls from a state that no call gave",
+    "list of link calls from a state that no call gave",
+    "list of console calls from a fresh state",
+    "list of console calls from a state that no call gave",
 ];
 
 /// A stream of numbers, the same for the same seed.

@@ -4,7 +4,7 @@ use std::collections::BTreeMap;
 
 /// How often each refusal came; 0 is an accepted call.
 #[derive(Default)]
-pub struct Refusals([u64; 18]);
+pub struct Refusals([u64; 28]);
 
 impl Refusals {
     pub fn count(&mut self, refusal: u64) {
@@ -20,7 +20,7 @@ impl Refusals {
 }
 
 /// Every call, the first level that has it, and the refusals that it can give.
-const CALLS: [(&str, usize, &[usize]); 19] = [
+const CALLS: [(&str, usize, &[usize]); 22] = [
     ("validate", 1, &[0, 2, 3, 5, 6, 7, 8, 9, 11]),
     ("convert", 1, &[0, 2, 3, 5, 6, 7, 8, 9, 10, 11]),
     ("convert_length", 1, &[0, 2, 3, 5, 6, 7, 8, 9, 11]),
@@ -34,6 +34,9 @@ const CALLS: [(&str, usize, &[usize]); 19] = [
     ("view_open", 2, &[0, 8, 9, 11]),
     ("view_next", 2, &[0, 2, 3, 5, 6, 7, 10, 11]),
     ("report", 2, &[0, 2, 3, 5, 6, 8, 9]),
+    ("consoles_fresh", 2, &[0]),
+    ("consoles_add", 2, &[0, 11, 27]),
+    ("consoles_slot", 2, &[0]),
     ("link_fresh", 3, &[0]),
     ("link_assign", 3, &[0, 11, 15]),
     ("link_release", 3, &[0, 14]),
@@ -85,4 +88,12 @@ impl Tally {
         println!("calls: level one {one}, level two {two}, level three {three}, of these the link's {}", self.links);
         all
     }
+}
+
+/// Prints what is wrong, if something is.
+pub fn agree(same: bool, wrong: impl FnOnce() -> String) -> bool {
+    if !same {
+        println!("{}", wrong());
+    }
+    same
 }

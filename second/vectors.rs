@@ -1,6 +1,7 @@
-//! Prints document 01's bench cases that are not marked P, and the public vectors: the frames of TS 26.201's tables 5, 6, A.1a, A.2 and
-//! A.3 with every core bit's place, the sub-flows of TS 26.202's table 6-2, and the ordering tables B.1 to B.5. What the papers print is
-//! taken from their print; where the second program has it otherwise, this program fails.
+//! Prints document 01's bench cases that are not marked P, calls of document 02's consoles, and the public vectors: the frames of TS 26.201's
+//! tables 5, 6, A.1a, A.2 and A.3 with every core bit's place, the sub-flows of TS 26.202's table 6-2, and the ordering tables B.1 to B.5.
+//! What the papers print is taken from their print; where the second program has it otherwise, this program fails.
+mod consoles;
 mod frame;
 // no vector releases a set, or only validates a recording
 #[allow(dead_code)]
@@ -11,6 +12,7 @@ mod printed_subflows;
 #[allow(dead_code)]
 mod recording;
 
+use consoles::Consoles;
 use frame::{Frame, ALL_FORMATS};
 use printed_frames::Table;
 
@@ -57,6 +59,36 @@ fn bench() {
     for rfci in [63, 64] {
         println!("bench up RFCI {rfci} refusal {}", refusal(link::up(&link, 0, rfci, &Default::default(), usize::MAX)));
     }
+}
+
+fn print_state(consoles: Consoles) -> Consoles {
+    let waiting = consoles.waiting.map(|count| format!(" {count}")).concat();
+    println!(" waiting{waiting} next {}", consoles.next);
+    consoles
+}
+
+fn print_add(before: Consoles, console: u64) -> Consoles {
+    let done = consoles::add(&before, console);
+    print!("consoles add {console} refusal {}", refusal(done));
+    print_state(done.unwrap_or(before))
+}
+
+fn print_slot(before: Consoles) -> Consoles {
+    let done = consoles::slot(&before);
+    print!("consoles slot served {} console {}", done.is_some() as u64, done.map_or(0, |(console, _)| console));
+    print_state(done.map_or(before, |(_, after)| after))
+}
+
+/// From console 0 on, around the ring, and a slot with nobody waiting; numbers out of their range; the 100th and the 101st frame.
+fn console_calls() {
+    let mut state = print_slot(consoles::fresh());
+    state = [7, 0, 3, 0].into_iter().fold(state, print_add);
+    state = (0..5).fold(state, |state, _| print_slot(state));
+    state = [8, 257].into_iter().fold(state, print_add);
+    state = (1..100).fold(state, |state, _| consoles::add(&state, 1).expect("room for a frame"));
+    state = [1, 1].into_iter().fold(state, print_add);
+    state = (0..2).fold(state, |state, _| print_slot(state));
+    print_add(state, 1);
 }
 
 /// A frame of good quality whose core is 0.
@@ -198,6 +230,7 @@ fn tables_b() {
 
 fn main() {
     bench();
+    console_calls();
     table_5();
     table_6();
     table_if2("table A.1a", "Table A.1a:", 1, 23);

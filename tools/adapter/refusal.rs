@@ -7,7 +7,7 @@ pub struct Refusal {
     pub octet: u64,
 }
 
-/// In the words of include/amrwb.h; the first is 1's.
+/// In the words of include/amrwb.h; the first is 1's. The consoles' 27 cannot come here.
 const MEANINGS: [&str; 17] = [
     "no octets",
     "reserved frame type, 10 to 13",

@@ -98,6 +98,9 @@ module _ (fault : ℕ → Type 0) (p : ℕ → Bool) (only : (n : ℕ) → fault
         (λ x. first-refused fault ts a n d (subst (λ ms. FirstOf fault ms n) (sym e) (k.1 x))),
       )
 
+pub both : {A B C : Type 0} → A ↔ B → B ↔ C → A ↔ C
+both p q = ((λ a. q.0 (p.0 a)), (λ c. p.1 (q.1 c)))
+
 -- a chain, and then another
 pub judge-then : {A B : Type 0} (ts us : List (ℕ × Bool)) (a : A) (b : B) (next : A → Outcome B) → next a ≡ judge us b
     → and_then (judge ts a) next ≡ judge (ts ++ us) b

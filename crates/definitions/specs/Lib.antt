@@ -1,4 +1,5 @@
 pub mod Outcome
+pub mod Runs
 pub mod Frames
 pub mod Reading
 pub mod Tables

@@ -1,6 +1,6 @@
-// The paper in antt: what a frame is, how it is read and built, and the codec's order of its bits. The definitions that every contract above
-// cites are in specs/, in document 01's order, and their theorems in proofs/. The functions here compute nothing: each carries a theorem as its
-// contract, so that none can go unseen.
+// The paper in antt: what a frame is, how it is read and built, and the codec's order of its bits; and what a program does over a list of calls.
+// The definitions that every contract above cites are in specs/, in document 01's order, and their theorems in proofs/. The functions here compute
+// nothing: each carries a theorem as its contract, so that none can go unseen.
 #![tactic(auto)]
 
 ghost use Rattle.std.specs.Prelude.{true, false};

@@ -30,7 +30,7 @@ pub enum Format {
     Storage,
 }
 
-// Why a call refuses, by document 01's numbers.
+// Why a call refuses, by the papers' numbers.
 #[derive(Clone, Copy, Debug, PartialEq, Eq)]
 pub enum Refusal {
     NoOctets = 1,
@@ -50,6 +50,7 @@ pub enum Refusal {
     SetPresent = 15,
     NotInSet = 16,
     SubflowBuffer = 17,
+    ConsoleFull = 27,
 }
 
 // A frame's fields but for the core, as they stand in its octets: numbers, and no bool or mode. A reader may find indication and request out of

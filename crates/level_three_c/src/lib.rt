@@ -13,11 +13,15 @@ ghost use Rattle.recordings.specs.Viewer.{open_call, view_call};
 ghost use Rattle.recordings.specs.Report.{report_call};
 ghost use Rattle.links.specs.Calls.{fresh_link, up_call, down_call};
 ghost use Rattle.links.specs.History.{link_step, assign, release, rate};
+ghost use Rattle.consoles_spec.specs.Calls.{fresh_consoles, add, slot, consoles_step};
+ghost use Rattle.consoles.specs.Flat.{consoles_numbers};
 ghost use Rattle.answers.specs.Flat.{placed_numbers, FlatConversion, FlatOutput, FlatFrame};
 ghost use Rattle.level_two.specs.Flat.{class_numbers, open_numbers, FlatView, report_numbers};
 ghost use Rattle.link_answers.specs.Flat.{link_numbers, FlatDown};
 
 use answers::{Answer, FrameAnswer};
+use consoles::ConsolesAnswer;
+use consoles_spec::Consoles;
 use level_two::{ClassAnswer, ReportAnswer, ViewAnswer};
 use link_answers::{DownNumbers, LinkAnswer};
 use links::Link;
@@ -140,6 +144,27 @@ pub extern "C" fn amrwb_report(rec: &[u8]) -> ReportAnswer
     ensures { result ≡ report_numbers (report_call rec.now) }
 {
     level_three::amrwb_report(rec)
+}
+
+#[unsafe(no_mangle)]
+pub extern "C" fn amrwb_consoles_fresh() -> Consoles
+    ensures { result ≡ fresh_consoles }
+{
+    level_three::amrwb_consoles_fresh()
+}
+
+#[unsafe(no_mangle)]
+pub extern "C" fn amrwb_consoles_add(consoles: Consoles, console: u64) -> ConsolesAnswer
+    ensures { result ≡ consoles_numbers (consoles_step consoles (add console)) }
+{
+    level_three::amrwb_consoles_add(consoles, console)
+}
+
+#[unsafe(no_mangle)]
+pub extern "C" fn amrwb_consoles_slot(consoles: Consoles) -> ConsolesAnswer
+    ensures { result ≡ consoles_numbers (consoles_step consoles slot) }
+{
+    level_three::amrwb_consoles_slot(consoles)
 }
 
 #[unsafe(no_mangle)]

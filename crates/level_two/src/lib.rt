@@ -14,6 +14,8 @@ ghost use Rattle.recordings.specs.Conversion.{convert_call, length_call};
 ghost use Rattle.recordings.specs.Viewer.{open_call, view_call};
 ghost use Rattle.recordings.specs.Report.{report_call};
 ghost use Rattle.frame.specs.Answers.{number_of};
+ghost use Rattle.consoles_spec.specs.Calls.{fresh_consoles, add, slot, consoles_step};
+ghost use Rattle.consoles.specs.Flat.{consoles_numbers};
 ghost use Rattle.answers.specs.Flat.{placed_numbers, FlatConversion, FlatOutput, FlatFrame};
 ghost use Rattle.level_two.specs.Flat.{class_number, class_numbers, unshown, open_numbers, FlatView, report_numbers};
 ghost use Rattle.level_two.specs.Claims.{ViewerLentOctets};
@@ -21,6 +23,8 @@ ghost use Rattle.reception.specs.Classes.{reception_of, classified_of};
 ghost use Rattle.report.specs.Answers.{reported_of};
 
 use answers::{Answer, FrameAnswer};
+use consoles::{ConsolesAnswer, added_answer, served_answer};
+use consoles_spec::Consoles;
 use frame::table::core_octets;
 use frame::{Format, Refusal, SID};
 pub use level_one::{amrwb_build_if1, amrwb_build_if2};
@@ -262,6 +266,24 @@ pub fn amrwb_report(rec: &[u8]) -> ReportAnswer
     ensures { result ≡ report_numbers (report_call rec.now) }
 {
     report::report_recording(rec).into()
+}
+
+pub fn amrwb_consoles_fresh() -> Consoles
+    ensures { result ≡ fresh_consoles }
+{
+    consoles::fresh()
+}
+
+pub fn amrwb_consoles_add(consoles: Consoles, console: u64) -> ConsolesAnswer
+    ensures { result ≡ consoles_numbers (consoles_step consoles (add console)) }
+{
+    added_answer(consoles, consoles::add(consoles, console))
+}
+
+pub fn amrwb_consoles_slot(consoles: Consoles) -> ConsolesAnswer
+    ensures { result ≡ consoles_numbers (consoles_step consoles slot) }
+{
+    served_answer(consoles, consoles::slot(consoles))
 }
 
 // Does nothing. Its contract: demand 1 at the C interface, of the viewer. A refused call and one at the end leave every lent octet and the place,

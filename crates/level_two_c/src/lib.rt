@@ -11,10 +11,14 @@ ghost use Rattle.recordings.specs.Recordings.{validate_call};
 ghost use Rattle.recordings.specs.Conversion.{convert_call, length_call};
 ghost use Rattle.recordings.specs.Viewer.{open_call, view_call};
 ghost use Rattle.recordings.specs.Report.{report_call};
+ghost use Rattle.consoles_spec.specs.Calls.{fresh_consoles, add, slot, consoles_step};
+ghost use Rattle.consoles.specs.Flat.{consoles_numbers};
 ghost use Rattle.answers.specs.Flat.{placed_numbers, FlatConversion, FlatOutput, FlatFrame};
 ghost use Rattle.level_two.specs.Flat.{class_numbers, open_numbers, FlatView, report_numbers};
 
 use answers::{Answer, FrameAnswer};
+use consoles::ConsolesAnswer;
+use consoles_spec::Consoles;
 use level_two::{ClassAnswer, ReportAnswer, ViewAnswer};
 
 #[unsafe(no_mangle)]
@@ -135,4 +139,25 @@ pub extern "C" fn amrwb_report(rec: &[u8]) -> ReportAnswer
     ensures { result ≡ report_numbers (report_call rec.now) }
 {
     level_two::amrwb_report(rec)
+}
+
+#[unsafe(no_mangle)]
+pub extern "C" fn amrwb_consoles_fresh() -> Consoles
+    ensures { result ≡ fresh_consoles }
+{
+    level_two::amrwb_consoles_fresh()
+}
+
+#[unsafe(no_mangle)]
+pub extern "C" fn amrwb_consoles_add(consoles: Consoles, console: u64) -> ConsolesAnswer
+    ensures { result ≡ consoles_numbers (consoles_step consoles (add console)) }
+{
+    level_two::amrwb_consoles_add(consoles, console)
+}
+
+#[unsafe(no_mangle)]
+pub extern "C" fn amrwb_consoles_slot(consoles: Consoles) -> ConsolesAnswer
+    ensures { result ≡ consoles_numbers (consoles_step consoles slot) }
+{
+    level_two::amrwb_consoles_slot(consoles)
 }

@@ -11,6 +11,8 @@ use lib.ListN.{length}
 use lib.Seq.{take_at}
 use borrow.Author.Tests.{eqb-true, ne_eqb}
 use Rattle.definitions.specs.Outcome.{Outcome, refused, ok}
+use Rattle.definitions.specs.Runs.{Log, after, replies}
+use Rattle.definitions.proofs.Runs.{after-keeps}
 use Rattle.definitions.specs.Frames.{if1}
 use Rattle.definitions.specs.Reading.{read_with}
 use Rattle.recordings.specs.Conversion.{with_modes}
@@ -18,7 +20,7 @@ use Rattle.links.specs.declared.Combination.{Combination}
 use Rattle.links.specs.declared.Link.{Link}
 use Rattle.links.specs.Sets.{all_good, most_combinations, set_good, rfc_set}
 use Rattle.links.specs.Calls.{no_request, link_by, fresh_link, has_set, in_fives, assign_call, release_call, rate_call, link_after, up_call, Down, down_call, down_after, Forward, nothing, request, recorded}
-use Rattle.links.specs.History.{Call, assign, release, rate, up, down, refusal, accepted, move_reply, up_reply, down_reply, link_step, Said, said_by, after, Replied, all_said, replies, set_said, request_said, forwarded_said, RightLink, Remembers}
+use Rattle.links.specs.History.{Call, assign, release, rate, up, down, refusal, accepted, Reply, move_reply, up_reply, down_reply, link_step, Said, said_by, all_said, set_said, request_said, forwarded_said, RightLink, Remembers}
 use Rattle.links.specs.UpAndDown.{forwarded_then, last_forwarded, is_last, AnswersByRule}
 use Rattle.links.proofs.SetLaws.{set-good}
 use Rattle.links.proofs.CallLaws.{move_accepted, frame-replied, subflows-replied, assign_takes, assign-ok, release_takes, release-ok, rate_takes, rate-ok, read-laid, read-request, down-ok, up-written}
@@ -37,17 +39,17 @@ record Holds (l : Link) (cs : List Combination) (r f : ℕ) (last : Forward) : T
   forwarded : f ≡ forwarded_number last
 
 -- a state that is what was said
-abbrev Kept : Link → Replied → Type 0
+abbrev Kept : Link → Log Call Reply → Type 0
 Kept l es = Holds l (set_said (all_said es)) (request_said (all_said es)) (forwarded_said (all_said es)) (last_forwarded (replies es))
 
 -- ---- the calls, each in its accepted case
 
-move_kept : (l : Link) (es : Replied) (c : Call) (o : Outcome Link) → Kept l es → ((m : Link) → o ≡ ok m → Kept m ((c, accepted) ∷ es))
+move_kept : (l : Link) (es : Log Call Reply) (c : Call) (o : Outcome Link) → Kept l es → ((m : Link) → o ≡ ok m → Kept m ((c, accepted) ∷ es))
     → Kept (link_after o l) ((c, move_reply o) ∷ es)
 move_kept l es c (refused n) k h = k
 move_kept l es c (ok m) k h = h m refl
 
-assign-kept : (l : Link) (es : Replied) (ns : List ℕ) → Kept l es → (m : Link) → assign_call l ns ≡ ok m
+assign-kept : (l : Link) (es : Log Call Reply) (ns : List ℕ) → Kept l es → (m : Link) → assign_call l ns ≡ ok m
     → Kept m ((assign ns, accepted) ∷ es)
 assign-kept l es ns k m e =
     let a = assign-ok l ns m e in
@@ -60,7 +62,7 @@ assign-kept l es ns k m e =
       forwarded = k.forwarded;
     }
 
-release-kept : (l : Link) (es : Replied) → Kept l es → (m : Link) → release_call l ≡ ok m → Kept m ((release, accepted) ∷ es)
+release-kept : (l : Link) (es : Log Call Reply) → Kept l es → (m : Link) → release_call l ≡ ok m → Kept m ((release, accepted) ∷ es)
 release-kept l es k m e = record {
   state = sym (release-ok l m e).1 ∙ ap (λ l. link_by (rfc_set []) l.request l.forwarded) k.state;
   few = omega arith;
@@ -69,7 +71,7 @@ release-kept l es k m e = record {
   forwarded = k.forwarded;
 }
 
-rate-kept : (l : Link) (es : Replied) (r : ℕ) → Kept l es → (m : Link) → rate_call l r ≡ ok m → Kept m ((rate r, accepted) ∷ es)
+rate-kept : (l : Link) (es : Log Call Reply) (r : ℕ) → Kept l es → (m : Link) → rate_call l r ≡ ok m → Kept m ((rate r, accepted) ∷ es)
 rate-kept l es r k m e =
     let a = rate-ok l r m e in
     record {
@@ -80,7 +82,7 @@ rate-kept l es r k m e =
       forwarded = k.forwarded;
     }
 
-up_kept : (l : Link) (es : Replied) (q i : ℕ) (s₁ s₂ s₃ : List ℕ) (room : ℕ) (o : Outcome (List ℕ)) → Kept l es
+up_kept : (l : Link) (es : Log Call Reply) (q i : ℕ) (s₁ s₂ s₃ : List ℕ) (room : ℕ) (o : Outcome (List ℕ)) → Kept l es
     → Kept l ((up q i s₁ s₂ s₃ room, up_reply o) ∷ es)
 up_kept l es q i s₁ s₂ s₃ room (refused n) k = k
 up_kept l es q i s₁ s₂ s₃ room (ok w) k = k
@@ -99,7 +101,7 @@ next_said true true f r last h k = h refl ∙ k
 next_said true false f r last h k = refl
 next_said false e f r last h k = k
 
-down-kept : (l : Link) (es : Replied) (s : List ℕ) (m₁ m₂ m₃ : ℕ) (o : Outcome Down) → down_call l s m₁ m₂ m₃ ≡ o → Kept l es
+down-kept : (l : Link) (es : Log Call Reply) (s : List ℕ) (m₁ m₂ m₃ : ℕ) (o : Outcome Down) → down_call l s m₁ m₂ m₃ ≡ o → Kept l es
     → Kept (down_after o l) ((down s m₁ m₂ m₃, down_reply o) ∷ es)
 down-kept l es s m₁ m₂ m₃ (refused n) e k = k
 down-kept l es s m₁ m₂ m₃ (ok d) e k =
@@ -122,16 +124,17 @@ down-kept l es s m₁ m₂ m₃ (ok d) e k =
       forwarded = said;
     })
 
-step_kept : (l : Link) (es : Replied) (c : Call) → Kept l es → Kept (link_step l c).1 ((c, (link_step l c).0) ∷ es)
+step_kept : (l : Link) (es : Log Call Reply) (c : Call) → Kept l es → Kept (link_step l c).1 ((c, (link_step l c).0) ∷ es)
 step_kept l es (assign ns) k = move_kept l es (assign ns) (assign_call l ns) k (assign-kept l es ns k)
 step_kept l es release k = move_kept l es release (release_call l) k (release-kept l es k)
 step_kept l es (rate m) k = move_kept l es (rate m) (rate_call l m) k (rate-kept l es m k)
 step_kept l es (up q i s₁ s₂ s₃ room) k = up_kept l es q i s₁ s₂ s₃ room (up_call l q i s₁ s₂ s₃ room) k
 step_kept l es (down s m₁ m₂ m₃) k = down-kept l es s m₁ m₂ m₃ (down_call l s m₁ m₂ m₃) refl k
 
-after_kept : (cs : List Call) → Kept (after fresh_link link_step cs).0 (after fresh_link link_step cs).1
-after_kept [] = record { state = refl; few = omega arith; good = refl; mode = omega arith; forwarded = refl }
-after_kept (c ∷ cs) = step_kept (after fresh_link link_step cs).0 (after fresh_link link_step cs).1 c (after_kept cs)
+after_kept : (cs : List Call) → Kept (after fresh_link link_step cs).state (after fresh_link link_step cs).log
+after_kept = after-keeps fresh_link link_step (λ cs l es. Kept l es)
+    (record { state = refl; few = omega arith; good = refl; mode = omega arith; forwarded = refl })
+    (λ cs l es c k. step_kept l es c k)
 
 holds_right : {l : Link} {cs : List Combination} {r f : ℕ} {last : Forward} → Holds l cs r f last → RightLink l
 holds_right {cs = cs} k =
@@ -190,7 +193,7 @@ pub answers_by_rule : AnswersByRule fresh_link link_step
 answers_by_rule = record {
   up = λ cs q i s₁ s₂ s₃ room w e.
       let k = after_kept cs in
-      let l = (after fresh_link link_step cs).0 in
+      let l = (after fresh_link link_step cs).state in
       let m = up-written l i s₁ s₂ s₃ room q w (frame-replied (up_call l q i s₁ s₂ s₃ room) w e) in
       record {
         x = m.x;
@@ -199,8 +202,8 @@ answers_by_rule = record {
       };
   down = λ cs s m₁ m₂ m₃ d e.
       let k = after_kept cs in
-      let l = (after fresh_link link_step cs).0 in
-      let last = last_forwarded (replies (after fresh_link link_step cs).1) in
+      let l = (after fresh_link link_step cs).state in
+      let last = last_forwarded (replies (after fresh_link link_step cs).log) in
       let t = down-ok l s m₁ m₂ m₃ d (subflows-replied (down_call l s m₁ m₂ m₃) d e) in
       let x = t.y.0 in
       let same : l.forwarded ≡ forwarded_number last = ap (λ (l : Link). l.forwarded) k.state ∙ k.forwarded in

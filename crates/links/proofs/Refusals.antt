@@ -16,7 +16,7 @@ use Rattle.definitions.specs.Outcome.{Outcome, refused, ok, unless}
 use Rattle.definitions.specs.Frames.{if1, Frame, octets, type_in, frame_in, fields_good, layout}
 use Rattle.definitions.specs.Reading.{read_with}
 use Rattle.definitions.specs.Refusals.{refusal_order, FirstOf, FieldFault, type_of, FrameFault}
-use Rattle.definitions.proofs.Outcome.{judge, Decides, Fails, also, same_number, no_refusal, refuses-first, judge-then}
+use Rattle.definitions.proofs.Outcome.{judge, Decides, Fails, also, same_number, no_refusal, refuses-first, both, judge-then}
 use Rattle.definitions.proofs.Refusals.{one-from, none-from, fields-fail, tests, tests-decide, of_frame, frame-only}
 use Rattle.links.specs.declared.Combination.{Combination}
 use Rattle.links.specs.declared.Link.{Link}
@@ -45,9 +45,6 @@ down-refused (ok d) n = ((λ e. absurd (let z : ◌≡◌ {A = ℕ} 0 1 = cc in 
 unrefused : (o : Outcome (List ℕ)) (v : List ℕ) → ((w : List ℕ) → o ≡ ok w → v ≡ w) → ((n : ℕ) → up_reply o ≡ refusal n → ⊥) → up_reply o ≡ frame v
 unrefused (refused n) v f z = absurd (z n refl)
 unrefused (ok w) v f z = ap frame (sym (f w refl))
-
-both : {A B C : Type 0} → A ↔ B → B ↔ C → A ↔ C
-both p q = ((λ a. q.0 (p.0 a)), (λ c. p.1 (q.1 c)))
 
 -- a call that is a chain
 by_chain : {A : Type 0} (o p : Outcome A) (n : ℕ) (F : Type 0) → o ≡ p → (p ≡ refused n) ↔ F → (o ≡ refused n) ↔ F

@@ -12,6 +12,7 @@ use Rattle.bits.specs.Bits.{odd, digits, num, bits, packs, pack, Octets}
 use Rattle.bits.proofs.BitLaws.{pack_octets}
 use Rattle.std.proofs.lemmas.Bool.{and_from}
 use Rattle.definitions.specs.Outcome.{ok}
+use Rattle.definitions.specs.Runs.{after}
 use Rattle.definitions.specs.Frames.{if1, Frame, frame_by, known, core_bits, octets, header, fields_good, layout}
 use Rattle.definitions.specs.Reading.{read_with}
 use Rattle.definitions.specs.Claims.{Valid}
@@ -23,7 +24,7 @@ use Rattle.links.specs.declared.Combination.{Combination}
 use Rattle.links.specs.declared.Link.{Link}
 use Rattle.links.specs.Sets.{combination, combination_good, set_good, rfc_set}
 use Rattle.links.specs.Calls.{link_by, fresh_link, assign_call, rate_call, no_data_bad, up_call, nothing, request, split, down_call}
-use Rattle.links.specs.History.{Call, assign, rate, up, down, frame, subflows, up_reply, down_reply, LinkProgram, after, RightLink, Remembers}
+use Rattle.links.specs.History.{Call, assign, rate, up, down, frame, subflows, up_reply, down_reply, LinkProgram, RightLink, Remembers}
 use Rattle.links.specs.UpAndDown.{AnswersByRule}
 use Rattle.links.specs.ThereAndBack.{JoinedAgain, SplitAgain, ThereAndBack}
 use Rattle.links.specs.Refusals.{link_order, AssignFault, UpFault, DownFault, RefusesLink}
@@ -109,7 +110,7 @@ unfolding assign_call set_good combination_good core_bits
 forwarded_said_again r =
     let w : List ℕ = layout if1 (sid 3) in
     let calls : List Call = down w 5 0 0 ∷ down (layout if1 (sid 2)) 5 0 0 ∷ assign sid_rows ∷ [] in
-    let p : (keeps_forwarded (after fresh_link keeps_forwarded calls).0 (down w 5 0 0)).0 ≡ subflows (split (sid_link 2) of_sid (sid 3)) =
+    let p : (keeps_forwarded (after fresh_link keeps_forwarded calls).state (down w 5 0 0)).0 ≡ subflows (split (sid_link 2) of_sid (sid 3)) =
     rw (sid_taken 15 2 refl, sid_taken 2 3 refl) in
     let h = r.down calls w 5 0 0 (split (sid_link 2) of_sid (sid 3)) p in
     let x : h.x ≡ sid 3 = read_once w h.x (sid 3) _ _ h.read (read-laid (sid 3) (sid-valid 3 refl)) in

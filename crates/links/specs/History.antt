@@ -1,6 +1,7 @@
 -- What a link keeps over any list of calls (document 01, "The link").
 use Rattle.std.specs.Prelude.{◌≡◌, true, false, cond, ◌↔◌, List, [], ◌∷◌, map, ℕ, ◌%◌, ◌≤◌, leb, length}
 use Rattle.definitions.specs.Outcome.{Outcome, refused, ok}
+use Rattle.definitions.specs.Runs.{Program, Log, after}
 use Rattle.definitions.specs.Frames.{if1, highest_mode, sid_type, Frame}
 use Rattle.definitions.specs.Reading.{read_with}
 use Rattle.links.specs.declared.Combination.{Combination}
@@ -36,7 +37,7 @@ down_reply (ok d) = subflows d
 
 -- a link: what a call answers in a state, and the state after it
 abbrev pub LinkProgram : Type 0
-LinkProgram = Link → Call → Reply × Link
+LinkProgram = Program Link Call Reply
 
 -- the link of document 01; in Up "state unchanged"
 abbrev pub link_step : LinkProgram
@@ -74,22 +75,8 @@ said c accepted = said_in c
 said c (frame w) = said_in c
 said c (subflows d) = said_in c
 
--- the state after a list of calls, and each call with its reply; the latest call comes first, and so does its reply
-abbrev pub after : {S C R : Type 0} → S → (S → C → R × S) → List C → S × List (C × R)
-after fresh step [] = (fresh, [])
-after {S} {C} {R} fresh step (c ∷ cs) =
-    let p : S × List (C × R) = after fresh step cs in
-    let r : R × S = step p.0 c in
-    (r.1, (c, r.0) ∷ p.1)
-
-abbrev pub Replied : Type 0
-Replied = List (Call × Reply)
-
-abbrev pub all_said : Replied → List Said
+abbrev pub all_said : Log Call Reply → List Said
 all_said = map (λ e. said e.0 e.1)
-
-abbrev pub replies : Replied → List Reply
-replies = map (λ e. e.1)
 
 -- the set: that of the last accepted Assign, none after an accepted Release or before any
 abbrev pub set_said : List Said → List Combination
@@ -131,8 +118,8 @@ pub record RightLink (l : Link) : Type 0 where
 
 pub record Remembers (fresh : Link) (step : LinkProgram) : Type 0 where
   -- from a fresh link, after any list of calls, the state is what the accepted ones said, and it is right
-  pub state : (cs : List Call) → (after fresh step cs).0 ≡ link_said (all_said (after fresh step cs).1)
-  pub right : (cs : List Call) → RightLink (after fresh step cs).0
+  pub state : (cs : List Call) → (after fresh step cs).state ≡ link_said (all_said (after fresh step cs).log)
+  pub right : (cs : List Call) → RightLink (after fresh step cs).state
   -- in any state whatever: a refused call leaves it, and these calls are accepted exactly where no refusal has its reason
   pub kept : (l : Link) (c : Call) (n : ℕ) → (step l c).0 ≡ refusal n → (step l c).1 ≡ l
   pub assigns : (l : Link) (ns : List ℕ)

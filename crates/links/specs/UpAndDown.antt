@@ -2,11 +2,12 @@
 -- visit's link "that keeps its first request: demand 2, by Up and Down").
 use Rattle.std.specs.Prelude.{◌≡◌, Bool, true, false, not, ◌&&◌, cond, List, [], ◌∷◌, ℕ, eqb, leb, length}
 use Rattle.definitions.specs.Outcome.{ok}
+use Rattle.definitions.specs.Runs.{Program, after, replies}
 use Rattle.definitions.specs.Frames.{if1, sid_type, Frame}
 use Rattle.definitions.specs.Reading.{read_with}
 use Rattle.recordings.specs.Conversion.{with_modes}
 use Rattle.links.specs.Calls.{Forward, nothing, request, Down}
-use Rattle.links.specs.History.{Call, up, down, Reply, refusal, accepted, frame, subflows, after, all_said, replies, request_said}
+use Rattle.links.specs.History.{Call, up, down, Reply, refusal, accepted, frame, subflows, all_said, request_said}
 
 -- ---- the last request forwarded, by what Down said
 
@@ -47,10 +48,10 @@ pub record SaysForwarded (last : Forward) (s : List ℕ) (said : Forward) : Type
 
 -- from a fresh link, after any list of calls: what Up writes has the request of the last accepted rate command (0 before any), and Down
 -- says that a request is forwarded, and which one, exactly where it is unlike the last one that Down said
-pub record AnswersByRule {S : Type 0} (fresh : S) (step : S → Call → Reply × S) : Type 0 where
+pub record AnswersByRule {S : Type 0} (fresh : S) (step : Program S Call Reply) : Type 0 where
   pub up : (cs : List Call) (fqc rfci : ℕ) (s₁ s₂ s₃ : List ℕ) (room : ℕ) (w : List ℕ)
-      → (step (after fresh step cs).0 (up fqc rfci s₁ s₂ s₃ room)).0 ≡ frame w
-      → HasModes (request_said (all_said (after fresh step cs).1)) w
+      → (step (after fresh step cs).state (up fqc rfci s₁ s₂ s₃ room)).0 ≡ frame w
+      → HasModes (request_said (all_said (after fresh step cs).log)) w
   pub down : (cs : List Call) (s : List ℕ) (room₁ room₂ room₃ : ℕ) (d : Down)
-      → (step (after fresh step cs).0 (down s room₁ room₂ room₃)).0 ≡ subflows d
-      → SaysForwarded (last_forwarded (replies (after fresh step cs).1)) s d.forward
+      → (step (after fresh step cs).state (down s room₁ room₂ room₃)).0 ≡ subflows d
+      → SaysForwarded (last_forwarded (replies (after fresh step cs).log)) s d.forward
