@@ -1,5 +1,5 @@
-//! The codec's bit order in plain Rust, unproved: what the library's speed is compared with. The tables are B.1 to B.5 of TS 26.201. Safe
-//! Rust only. A refused call writes nothing; octets beyond the written ones stay.
+//! The codec's bit order in plain Rust, unproved: what the library's speed is compared with. The tables of modes 0 to 4 are B.1 to B.5 of TS
+//! 26.201; modes 5 to 8 have the sheet that is lent. Safe Rust only. A refused call writes nothing; octets beyond the written ones stay.
 #![forbid(unsafe_code)]
 
 static TABLE_0: [u16; 132] = [
@@ -138,24 +138,43 @@ pub const BITS: [usize; 9] = [132, 177, 253, 285, 317, 365, 397, 461, 477];
 /// Octets of a packed core of so many bits.
 pub const fn packed(bits: usize) -> usize { (bits + 7) / 8 }
 
-fn table(mode: u64) -> Option<&'static [u16]> {
-    Some(match mode {
-        0 => &TABLE_0,
-        1 => &TABLE_1,
-        2 => &TABLE_2,
-        3 => &TABLE_3,
-        4 => &TABLE_4,
-        _ => return None,
-    })
+/// Whether each number below the sheet's length stands in it: then none is larger.
+fn complete(sheet: &[u16]) -> bool {
+    let mut found = [false; BITS[8]];
+    let found = &mut found[..sheet.len()];
+    for n in sheet {
+        match found.get_mut(*n as usize) {
+            Some(found) => *found = true,
+            None => return false,
+        }
+    }
+    found.iter().all(|found| *found)
 }
+
+/// The table of a mode, whose sheet has a number for each bit or none.
+fn table(mode: u64, sheet: &[u16]) -> Result<&[u16], u8> {
+    match mode {
+        0 => Ok(&TABLE_0),
+        1 => Ok(&TABLE_1),
+        2 => Ok(&TABLE_2),
+        3 => Ok(&TABLE_3),
+        4 => Ok(&TABLE_4),
+        _ if sheet.is_empty() => Err(12),
+        _ if !complete(sheet) => Err(24),
+        _ => Ok(sheet),
+    }
+}
+
+/// Whether a sheet has a length that may come with a mode, which leaves it unread up to mode 4.
+fn fits(mode: u64, sheet: &[u16], bits: usize) -> bool { mode < 5 || sheet.is_empty() || sheet.len() == bits }
 
 fn bits(mode: u64) -> Option<usize> { BITS.get(usize::try_from(mode).ok()?).copied() }
 
 /// From the codec's row to the packed core: the octets written, or the refusal's number.
-pub fn to_core(mode: u64, row: &[u8], core: &mut [u8]) -> Result<usize, u8> {
+pub fn to_core(mode: u64, sheet: &[u16], row: &[u8], core: &mut [u8]) -> Result<usize, u8> {
     let bits = bits(mode).ok_or(11)?;
-    if row.len() != bits || row.iter().fold(0, |all, s| all | s) > 1 { return Err(11); }
-    let table = table(mode).ok_or(12)?;
+    if row.len() != bits || row.iter().fold(0, |all, s| all | s) > 1 || !fits(mode, sheet, bits) { return Err(11); }
+    let table = table(mode, sheet)?;
     let octets = packed(bits);
     if core.len() < octets { return Err(10); }
     for (octet, places) in core.iter_mut().zip(table.chunks(8)) {
@@ -167,12 +186,12 @@ pub fn to_core(mode: u64, row: &[u8], core: &mut [u8]) -> Result<usize, u8> {
 }
 
 /// From the packed core to the codec's row: the octets written, or the refusal's number.
-pub fn to_row(mode: u64, core: &[u8], row: &mut [u8]) -> Result<usize, u8> {
+pub fn to_row(mode: u64, sheet: &[u16], core: &[u8], row: &mut [u8]) -> Result<usize, u8> {
     let bits = bits(mode).ok_or(11)?;
-    if core.len() != packed(bits) { return Err(11); }
+    if core.len() != packed(bits) || !fits(mode, sheet, bits) { return Err(11); }
     // K is no multiple of 8 in any mode
     if core[core.len() - 1] & 0xFF >> (bits % 8) != 0 { return Err(5); }
-    let table = table(mode).ok_or(12)?;
+    let table = table(mode, sheet)?;
     if row.len() < bits { return Err(10); }
     let row = &mut row[..bits];
     for (octet, places) in core.iter().zip(table.chunks(8)) {

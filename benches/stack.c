@@ -58,6 +58,10 @@ static const uint8_t *in = (const uint8_t *)"";
 static size_t in_len;
 static uint8_t *out;
 static size_t out_len;
+static const uint16_t *sheet;
+static size_t sheet_len;
+static uint16_t numbers[512];
+static size_t numbers_len;
 static amrwb_consoles consoles;
 static amrwb_link state;
 static uint64_t rows[5 * (PLACES + 1)];
@@ -76,8 +80,9 @@ RUN(build_if1, n[0], n[1], n[2], n[3], in, in_len, out, out_len)
 RUN(build_if2, n[0], n[1], in, in_len, out, out_len)
 RUN(build_stored, n[0], n[1], in, in_len, out, out_len)
 RUN(class, n[0], n[1], n[2])
-RUN(order_to_core, n[0], in, in_len, out, out_len)
-RUN(order_to_row, n[0], in, in_len, out, out_len)
+RUN(order_to_core, n[0], sheet, sheet_len, in, in_len, out, out_len)
+RUN(order_to_row, n[0], sheet, sheet_len, in, in_len, out, out_len)
+RUN(sheet_read, in, in_len, numbers, numbers_len)
 RUN(view_open, n[0], in, in_len)
 RUN(view_next, n[0], n[1], n[2], in, in_len, out, out_len)
 RUN(report, in, in_len)
@@ -111,9 +116,9 @@ typedef struct {
     { "amrwb_" #name, (function)amrwb_##name, run_##name, refusals, words, link, sizeof(answer), 0, 0 }
 
 enum {
-    VALIDATE, CONVERT, CONVERT_LENGTH, READ_FRAME, BUILD_IF1, BUILD_IF2, BUILD_STORED, CLASS, ORDER_TO_CORE, ORDER_TO_ROW, VIEW_OPEN,
-    VIEW_NEXT, REPORT, CONSOLES_FRESH, CONSOLES_ADD, CONSOLES_SLOT, LINK_FRESH, LINK_ASSIGN, LINK_RELEASE, LINK_RATE, LINK_UP, LINK_DOWN,
-    CALLS
+    VALIDATE, CONVERT, CONVERT_LENGTH, READ_FRAME, BUILD_IF1, BUILD_IF2, BUILD_STORED, CLASS, ORDER_TO_CORE, ORDER_TO_ROW, SHEET_READ,
+    VIEW_OPEN, VIEW_NEXT, REPORT, CONSOLES_FRESH, CONSOLES_ADD, CONSOLES_SLOT, LINK_FRESH, LINK_ASSIGN, LINK_RELEASE, LINK_RATE, LINK_UP,
+    LINK_DOWN, CALLS
 };
 
 static call calls[CALLS] = {
@@ -125,8 +130,9 @@ static call calls[CALLS] = {
     CALL(build_if2, BUILT, 7, 0, amrwb_answer),
     CALL(build_stored, BUILT, 7, 0, amrwb_answer),
     CALL(class, R(0) | R(2) | R(11), 4, 0, amrwb_class_answer),
-    CALL(order_to_core, R(0) | R(10) | R(11) | R(12), 6, 0, amrwb_answer),
-    CALL(order_to_row, R(0) | R(5) | R(10) | R(11) | R(12), 6, 0, amrwb_answer),
+    CALL(order_to_core, R(0) | R(10) | R(11) | R(12) | R(24), 8, 0, amrwb_answer),
+    CALL(order_to_row, R(0) | R(5) | R(10) | R(11) | R(12) | R(24), 8, 0, amrwb_answer),
+    CALL(sheet_read, R(0) | R(10) | R(23) | R(24), 5, 0, amrwb_sheet),
     CALL(view_open, R(0) | R(8) | R(9) | R(11), 4, 0, amrwb_view),
     CALL(view_next, R(0) | IN_FRAME | R(10) | R(11), 8, 0, amrwb_view),
     CALL(report, R(0) | R(2) | R(3) | R(5) | R(6) | R(8) | R(9), 3, 0, amrwb_counts),
@@ -395,13 +401,28 @@ static void classes(void) {
                 measure(CLASS);
 }
 
+/* A sheet with each number once, since 7 divides no K. */
+static void make_sheet(size_t bits, uint16_t *places) {
+    for (size_t j = 0; j < bits; j++)
+        places[j] = 7 * j % bits;
+}
+
+/* Rows and cores with something wrong at times, by right and wrong sheets. */
 static void orders(void) {
     static uint8_t row[512], core[FRAME_OCTETS + 1], buffer[512];
+    static uint16_t places[512];
+    sheet = places;
     out = buffer;
     for (uint64_t mode = 0; mode <= 9; mode++) {
         size_t bits = core_bits[mode];
         for (int i = 0; i < 200; i++) {
             n[0] = mode;
+            make_sheet(bits, places);
+            sheet_len = i % 7 == 1 ? 0 : i % 7 == 2 ? bits - 1 : i % 7 == 3 ? bits + 1 : bits;
+            if (i % 7 == 4)
+                places[chance() % bits] = i % 2 ? bits : UINT16_MAX;
+            if (i % 7 == 5)
+                places[bits - 1] = places[0];
             for (size_t j = 0; j < bits; j++)
                 row[j] = chance() & 1;
             in = row;
@@ -419,6 +440,43 @@ static void orders(void) {
             measure(ORDER_TO_ROW);
         }
     }
+}
+
+/* The text of a mode's sheet, with another number at a place. */
+static size_t make_text(uint64_t mode, size_t place, const char *number, char *text) {
+    size_t bits = core_bits[mode];
+    uint16_t places[512];
+    make_sheet(bits, places);
+    int len = sprintf(text, "mode=%d\nbits=%d\n", (int)mode, (int)bits);
+    for (size_t j = 0; j < bits; j++)
+        len += j == place ? sprintf(text + len, "d%d=%s\n", (int)j, number) : sprintf(text + len, "d%d=%d\n", (int)j, places[j]);
+    return len;
+}
+
+/* Sheets of every mode, right and with a number out of form, twice or too large; that of mode 8 cut, with each octet changed, and read with
+ * each length of the numbers. */
+static void sheets(void) {
+    static const char *wrong[] = {"", "00", "0", "477", "65535", "65536", "18446744073709551616", "1000000000000000000000000000000000000000"};
+    static char text[8192];
+    in = (const uint8_t *)text;
+    numbers_len = LENGTH(numbers);
+    for (uint64_t mode = 0; mode <= 9; mode++)
+        for (size_t i = 0; i < 4 * LENGTH(wrong); i++) {
+            size_t bits = core_bits[mode], place[] = {0, bits / 2, bits - 1, bits};
+            in_len = make_text(mode, place[i % 4], wrong[i / 4], text);
+            measure(SHEET_READ);
+        }
+    size_t bits = core_bits[8], len = make_text(8, bits, "", text);
+    for (in_len = 0; in_len <= len + 1; in_len++)
+        measure(SHEET_READ);
+    in_len = len;
+    for (size_t i = 0; i < len; i++) {
+        text[i] ^= 1 + i % 31;
+        measure(SHEET_READ);
+        text[i] ^= 1 + i % 31;
+    }
+    for (numbers_len = 0; numbers_len <= bits + 1; numbers_len++)
+        measure(SHEET_READ);
 }
 
 /* Frames added from a fresh state until every console is full and served until none waits, and states that no call answers. Console 8 is out
@@ -584,6 +642,7 @@ int main(int argc, char **argv) {
     builders();
     classes();
     orders();
+    sheets();
     slots();
     assigns();
     links();

@@ -1,10 +1,10 @@
-/* The AMR-WB voice adapter's C interface: whole recordings, one frame, the reception class, the codec's bit order, a viewer, the report, eight
- * consoles that share one adapter, and the link to a radio network. Three static libraries have it, of which a host links one: level one has
- * the calls for recordings and for one frame, with formats 1 and 2; level two has these with formats 1 to 3, and every other call but the
- * link's; level three has all. They need no C library but for memcpy and memset.
+/* The AMR-WB voice adapter's C interface: whole recordings, one frame, the reception class, the codec's bit order with its sheets, a viewer, the
+ * report, eight consoles that share one adapter, and the link to a radio network. Three static libraries have it, of which a host links one:
+ * level one has the calls for recordings and for one frame, with formats 1 and 2; level two has these with formats 1 to 3, and every other call
+ * but the link's; level three has all. They need no C library but for memcpy and memset.
  *
- * Octets are lent as a pointer and a length; a length of 0 may come with any pointer that is not null. The lent buffers of one call
- * must not overlap. No call keeps a pointer, uses the heap or fails in another way than by its answer.
+ * Octets are lent as a pointer and a length, and so are numbers, which the length counts; a length of 0 may come with any pointer that is not
+ * null. The lent buffers of one call must not overlap. No call keeps a pointer, uses the heap or fails in another way than by its answer.
  *
  * A format is 1 IF1, 2 IF2 or 3 stored (format 3 is refusal 11 in level one). A recording is its frames joined, none or more, at most
  * 16,777,215 octets; a stored one begins with the nine octets "#!AMR-WB\n", which count too.
@@ -14,16 +14,18 @@
  *   1 no octets              2 reserved frame type (10 to 13)    3 fewer octets than the type's    4 octets behind a single frame
  *   5 spare or filling bit 1 6 a mode or field out of range      7 CRC                             8 header of a stored recording
  *   9 recording too long, read or about to be written           10 buffer shorter than needed
- *   11 another argument out of its range                        12 codec order of modes 5 to 8   13 FQC 3
+ *   11 another argument out of its range                        12 no sheet for modes 5 to 8     13 FQC 3
  *   14 the link has no set                                      15 the link has a set            16 RFCI or type not in the set
  *   17 a sub-flow's buffer with another length than its octets, or with a filling bit 1
+ *   23 text that has not a sheet's form                         24 a number missing from a sheet
  *   27 a console already has 100 frames waiting
  * Where several apply, the one that comes first in this order is given: 11, 27, 14, 15, 9 for what is read, 8, the first refused frame by 1 to
- * 7, 12, 13, 16, 17, 6 for the mode of a SID frame that the link makes, 9 for what would be written, 10. 1 and 4 come in a call for one frame
- * only, 8 and 9 in a call for a recording only, 13 to 17 in the link's only, 27 in the consoles' only. At 2 to 7 in a recording, frame counts
- * its frames from 0, and octet is the place of that frame's first octet, from 0 at the recording's start, header included; else both are 0. At
- * a refusal every other field is 0, but for offset and number of amrwb_view_next, consoles and link, which stay as given, and no lent octet is
- * changed. Otherwise octets of a buffer beyond the written ones stay.
+ * 7, 12, 23, 24, 13, 16, 17, 6 for the mode of a SID frame that the link makes, 9 for what would be written, 10. 1 and 4 come in a call for one
+ * frame only, 8 and 9 in a call for a recording only, 12 in amrwb_order_to_core and amrwb_order_to_row only, 23 in amrwb_sheet_read only, 24 in
+ * these three only, 13 to 17 in the link's only, 27 in the consoles' only. At 2 to 7 in a recording, frame counts its frames from 0, and octet
+ * is the place of that frame's first octet, from 0 at the recording's start, header included; else both are 0. At a refusal every other field is
+ * 0, but for offset and number of amrwb_view_next, consoles and link, which stay as given, and no lent octet or number is changed. Otherwise
+ * octets and numbers of a buffer beyond the written ones stay.
  *
  * A frame type is 0 to 9, 14 or 15; quality is the FQI (0 bad, 1 good); indication and request are modes, 0 to 8. A core is packed:
  * d(0) is the top bit of its first octet, and filling bits are 0. Type 0 to 9 has 17, 23, 32, 36, 40, 46, 50, 58, 60, 5 octets
@@ -82,6 +84,12 @@ typedef struct {
     uint64_t speech, comfort, lost, empty; /* frames of type 0 to 8, 9, 14 and 15 */
 } amrwb_counts;
 
+typedef struct {
+    uint64_t refusal, frame, octet;
+    uint64_t mode;    /* 5 to 8 */
+    uint64_t numbers; /* numbers written */
+} amrwb_sheet;
+
 /* Level one: recordings. */
 
 /* Reads the recording rec of a format to its end: frames read, and octets 0. 11 for the format; 9; 8 in storage format; the first refused
@@ -119,15 +127,25 @@ amrwb_answer amrwb_build_stored(uint64_t type, uint64_t quality, const uint8_t *
 amrwb_class_answer amrwb_class(uint64_t type, uint64_t quality, uint64_t sti);
 
 /* Level two: the codec's bit order. A row has one octet of 0 or 1 for each bit s(1) to s(K) of the codec, in its order; K is 132, 177, 253,
- * 285, 317, 365, 397, 461, 477 for mode 0 to 8. There are tables for modes 0 to 4: modes 5 to 8 are judged like these, and then 12. */
+ * 285, 317, 365, 397, 461, 477 for mode 0 to 8. The tables for modes 0 to 4 are the library's, and no sheet is read there. For modes 5 to 8 the
+ * host lends one, a sheet: K numbers, each of 0 to K-1 once, by which d(j) = s(sheet[j]+1). Each call judges it; sheet_len counts its numbers,
+ * and 0 says that there is none, which is 12. Also where there is none, or none is read, sheet must not be null. */
 
-/* Writes the packed core of a row to core: octets written. 11 for a mode above 8, a row with another length than K or a value above 1; 12;
- * 10. */
-amrwb_answer amrwb_order_to_core(uint64_t mode, const uint8_t *row, size_t row_len, uint8_t *core, size_t core_len);
+/* Writes the packed core of a row to core: octets written. 11 for a mode above 8, a row with another length than K or a value above 1, or in
+ * modes 5 to 8 a sheet with another length than K or 0; in modes 5 to 8 also 12, and 24 where a number below K is missing from the sheet; 10. */
+amrwb_answer amrwb_order_to_core(uint64_t mode, const uint16_t *sheet, size_t sheet_len, const uint8_t *row, size_t row_len,
+                                 uint8_t *core, size_t core_len);
 
-/* Writes the row of a packed core to row: octets written, one for each bit. 11 for a mode above 8 or a core that has not exactly the mode's
- * octets; 5 for a filling bit 1; 12; 10. */
-amrwb_answer amrwb_order_to_row(uint64_t mode, const uint8_t *core, size_t core_len, uint8_t *row, size_t row_len);
+/* Writes the row of a packed core to row: octets written, one for each bit. 11 for a mode above 8, a core that has not exactly the mode's
+ * octets, or a sheet as above; 5 for a filling bit 1; 12; 24; 10. */
+amrwb_answer amrwb_order_to_row(uint64_t mode, const uint16_t *sheet, size_t sheet_len, const uint8_t *core, size_t core_len,
+                                uint8_t *row, size_t row_len);
+
+/* Reads a sheet from text, and writes its K numbers to numbers, where 477 places are enough: the mode, and numbers written. The text has the
+ * lines mode=5, bits=365 (K), d0=0, d1=4 and so on to d(K-1), each ended by one line feed, and nothing else. Its numbers are decimal, of any
+ * length, without leading zeros. 23 where it differs from that, the mode is not 5 to 8, or bits is not the mode's K; 24 where a number below K
+ * is missing, whatever stands in its place; 10. */
+amrwb_sheet amrwb_sheet_read(const uint8_t *text, size_t len, uint16_t *numbers, size_t numbers_len);
 
 /* Level two: a viewer, which hands out the frames of a recording in turn. The host keeps format, offset and number between the calls, and
  * lends the same recording to each. */

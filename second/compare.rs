@@ -8,6 +8,7 @@ mod compare_links;
 mod compare_order;
 mod compare_recordings;
 mod compare_reports;
+mod compare_sheets;
 mod compare_views;
 mod consoles;
 mod frame;
@@ -20,9 +21,11 @@ mod random;
 mod random_frames;
 mod random_links;
 mod random_recordings;
+mod random_sheets;
 mod reception;
 mod recording;
 mod report;
+mod sheet;
 mod tally;
 mod view;
 
@@ -77,24 +80,26 @@ impl Comparison {
     /// One input by chance, in every level that has its call; true where all agree.
     fn compare(&mut self) -> bool {
         let (g, tally) = (&mut self.g, &mut self.tally);
-        match g.below(38) {
+        match g.below(40) {
             0..=2 => compare_frames::compare_read(g, tally),
             3..=5 => compare_frames::compare_build(g, tally),
             6 => compare_frames::compare_class(g, tally),
             7..=10 => compare_recordings::compare(g, tally),
-            11..=12 => compare_order::compare(g, tally, &self.order),
-            13 => self.views.compare(g, tally),
-            14 => compare_reports::compare(g, tally),
-            15..=17 => self.consoles.compare(g, tally),
+            11..=13 => compare_order::compare(g, tally, &self.order),
+            14 => compare_sheets::compare(g, tally),
+            15 => self.views.compare(g, tally),
+            16 => compare_reports::compare(g, tally),
+            17..=19 => self.consoles.compare(g, tally),
             _ => self.links.compare(g, tally),
         }
     }
 
-    /// Cases of the papers, a real encoder's frames, and the length limits; true where all agree.
+    /// Cases of the papers, sheets with something wrong everywhere, a real encoder's frames, and the length limits; true where all agree.
     fn compare_fixed(&mut self) -> bool {
         let tally = &mut self.tally;
         Links::new().compare_fixed(tally)
             && ConsoleLists::new().compare_fixed(tally)
+            && compare_sheets::compare_fixed(tally)
             && compare_order::compare_encoder(tally, &self.order)
             && compare_reports::compare_limits(tally)
             && compare_recordings::compare_limits(tally)

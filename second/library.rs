@@ -31,6 +31,7 @@ macro_rules! answer {
 answer!(Answer[5] { refusal, frame, octet, frames, octets });
 answer!(FrameAnswer[8] { refusal, frame, octet, ftype, quality, indication, request, core_octets });
 answer!(ClassAnswer[4] { refusal, frame, octet, class });
+answer!(SheetAnswer[5] { refusal, frame, octet, mode, numbers });
 answer!(View[12] { refusal, frame, octet, end, ftype, quality, indication, request, core_octets, offset, number, class });
 answer!(Counts[9] { refusal, frame, octet, octets, frames, speech, comfort, lost, empty });
 answer!(ConsolesFields[5] { refusal, frame, octet, served, console });
@@ -95,8 +96,9 @@ calls!(OneCalls, ONE_CALLS: ["one_amrwb_", "two_amrwb_", "three_amrwb_"], {
 calls!(TwoCalls, TWO_CALLS: ["two_amrwb_", "three_amrwb_"], {
     build_stored(u64, u64, *const u8, usize, *mut u8, usize) -> Answer;
     class(u64, u64, u64) -> ClassAnswer;
-    order_to_core(u64, *const u8, usize, *mut u8, usize) -> Answer;
-    order_to_row(u64, *const u8, usize, *mut u8, usize) -> Answer;
+    order_to_core(u64, *const u16, usize, *const u8, usize, *mut u8, usize) -> Answer;
+    order_to_row(u64, *const u16, usize, *const u8, usize, *mut u8, usize) -> Answer;
+    sheet_read(*const u8, usize, *mut u16, usize) -> SheetAnswer;
     view_open(u64, *const u8, usize) -> View;
     view_next(u64, u64, u64, *const u8, usize, *mut u8, usize) -> View;
     report(*const u8, usize) -> Counts;

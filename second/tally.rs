@@ -20,7 +20,7 @@ impl Refusals {
 }
 
 /// Every call, the first level that has it, and the refusals that it can give.
-const CALLS: [(&str, usize, &[usize]); 22] = [
+const CALLS: [(&str, usize, &[usize]); 23] = [
     ("validate", 1, &[0, 2, 3, 5, 6, 7, 8, 9, 11]),
     ("convert", 1, &[0, 2, 3, 5, 6, 7, 8, 9, 10, 11]),
     ("convert_length", 1, &[0, 2, 3, 5, 6, 7, 8, 9, 11]),
@@ -29,8 +29,9 @@ const CALLS: [(&str, usize, &[usize]); 22] = [
     ("build_if2", 1, &[0, 2, 5, 6, 10, 11]),
     ("build_stored", 2, &[0, 2, 5, 6, 10, 11]),
     ("class", 2, &[0, 2, 11]),
-    ("order_to_core", 2, &[0, 10, 11, 12]),
-    ("order_to_row", 2, &[0, 5, 10, 11, 12]),
+    ("order_to_core", 2, &[0, 10, 11, 12, 24]),
+    ("order_to_row", 2, &[0, 5, 10, 11, 12, 24]),
+    ("sheet_read", 2, &[0, 10, 23, 24]),
     ("view_open", 2, &[0, 8, 9, 11]),
     ("view_next", 2, &[0, 2, 3, 5, 6, 7, 10, 11]),
     ("report", 2, &[0, 2, 3, 5, 6, 8, 9]),

@@ -1,19 +1,23 @@
-//! Prints document 01's bench cases that are not marked P, calls of document 02's consoles, and the public vectors: the frames of TS 26.201's
-//! tables 5, 6, A.1a, A.2 and A.3 with every core bit's place, the sub-flows of TS 26.202's table 6-2, and the ordering tables B.1 to B.5.
+//! Prints document 01's bench cases that are not marked P, calls of document 02's consoles and sheets, and the public vectors: the frames of TS
+//! 26.201's tables 5, 6, A.1a, A.2 and A.3 with every core bit's place, the sub-flows of TS 26.202's table 6-2, and the ordering tables B.1 to B.5.
 //! What the papers print is taken from their print; where the second program has it otherwise, this program fails.
 mod consoles;
 mod frame;
-// no vector releases a set, or only validates a recording
+// no vector releases a set, only validates a recording, or orders a row
 #[allow(dead_code)]
 mod link;
+#[allow(dead_code)]
+mod order;
 mod printed;
 mod printed_frames;
 mod printed_subflows;
 #[allow(dead_code)]
 mod recording;
+mod sheet;
 
 use consoles::Consoles;
 use frame::{Frame, ALL_FORMATS};
+use order::Order;
 use printed_frames::Table;
 
 const FRAMES: &str = include_str!("../tests/tables/ts-26.201-frames.txt");
@@ -219,12 +223,54 @@ fn table_6_2() {
     }
 }
 
+fn print_numbers<T: ToString>(numbers: &[T]) {
+    for line in numbers.chunks(10) {
+        println!("{}", line.iter().map(T::to_string).collect::<Vec<_>>().join(" "));
+    }
+}
+
 fn tables_b() {
     for (table, m) in printed::tables(ORDER).iter().zip(1..) {
         println!("table B.{m}");
-        for row in table.chunks(10) {
-            println!("{}", row.iter().map(usize::to_string).collect::<Vec<_>>().join(" "));
-        }
+        print_numbers(table);
+    }
+}
+
+/// Reads the text of a sheet in which d(j) has the number j + 1, and the last of them another one: what is read, or none where it is refused.
+fn print_sheet(mode: u64, last: usize, room: usize) -> Vec<u16> {
+    let bits = frame::core_bits(mode);
+    let numbers = (1..bits).chain([last]).enumerate();
+    let lines: Vec<String> = numbers.map(|(j, n)| format!("d{j}={n}\n")).collect();
+    let done = sheet::read(format!("mode={mode}\nbits={bits}\n{}", lines.concat()).as_bytes(), room);
+    print!("sheet mode {mode} bits {bits} last {last} room {room} refusal {}", done.as_ref().err().unwrap_or(&0));
+    let (mode, numbers) = done.unwrap_or_default();
+    println!(" mode {mode} numbers {}", numbers.len());
+    numbers
+}
+
+/// Where a core's bits come to in the row by a sheet: d(j) = s(number + 1).
+fn by_sheets(order: &Order) {
+    for mode in 5..=8 {
+        let sheet = print_sheet(mode, 0, 480);
+        println!("table by the sheet of mode {mode}");
+        let cores = (0..sheet.len()).map(|j| frame::pack(&(0..sheet.len()).map(|i| i == j).collect::<Vec<_>>()));
+        let rows = cores.map(|core| order.to_row(mode, &sheet, &core, sheet.len()).expect("a right sheet"));
+        let places: Vec<usize> = rows.map(|row| row.iter().position(|s| *s == 1).expect("a bit")).collect();
+        check(places.iter().copied().eq((1..sheet.len()).chain([0])), &format!("the sheet of mode {mode}"));
+        print_numbers(&places);
+    }
+}
+
+/// Right sheets of every mode; a buffer that is one number short, a number whose low 16 bits are 0, and a mode that has no sheet; orders with
+/// no sheet, and with sheets of another length and of nothing but 0.
+fn sheets() {
+    let order = Order::new();
+    by_sheets(&order);
+    print_sheet(5, 0, 364);
+    print_sheet(5, 65536, 365);
+    print_sheet(4, 0, 365);
+    for n in [0, 364, 365] {
+        println!("order mode 5 numbers {n} refusal {}", refusal(order.to_row(5, &vec![0; n], &[0; 46], 480)));
     }
 }
 
@@ -238,4 +284,5 @@ fn main() {
     table_a3();
     table_6_2();
     tables_b();
+    sheets();
 }

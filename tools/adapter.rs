@@ -1,5 +1,5 @@
-//! The adapter on the command line: converts, validates, reports on, lists and round-trips AMR-WB recordings. Everything about frames is
-//! the library's (level three); here are arguments, files and messages only.
+//! The adapter on the command line: converts, validates, reports on, lists and round-trips AMR-WB recordings, and checks sheets. The
+//! library (level three) decides everything about frames and sheets; here are arguments, files and messages only.
 //!
 //! The modules lie in adapter/, and are named by path because this file is the program's root.
 #[path = "adapter/arguments.rs"]
@@ -26,6 +26,10 @@ mod refusal;
 mod report;
 #[path = "adapter/round_trip.rs"]
 mod round_trip;
+#[path = "adapter/sheet.rs"]
+mod sheet;
+#[path = "adapter/sheet_fault.rs"]
+mod sheet_fault;
 #[path = "adapter/trouble.rs"]
 mod trouble;
 #[path = "adapter/validate.rs"]
@@ -36,17 +40,25 @@ use std::ffi::OsString;
 use std::process::ExitCode;
 use trouble::{say, Status, Trouble};
 
-const COMMANDS: [Command; 5] = [
+const COMMANDS: [Command; 6] = [
     Command {
         name: "convert",
+        action: None,
         options: &["--to", "--from", "--request", "--output", "--into"],
         help: help::CONVERT,
         run: convert::convert,
     },
-    Command { name: "validate", options: &["--from"], help: help::VALIDATE, run: validate::validate },
-    Command { name: "report", options: &["--long", "--from"], help: help::REPORT, run: report::report },
-    Command { name: "frames", options: &["--from"], help: help::FRAMES, run: frames::frames },
-    Command { name: "round-trip", options: &["--from", "--via", "--request"], help: help::ROUND_TRIP, run: round_trip::round_trip },
+    Command { name: "validate", action: None, options: &["--from"], help: help::VALIDATE, run: validate::validate },
+    Command { name: "report", action: None, options: &["--long", "--from"], help: help::REPORT, run: report::report },
+    Command { name: "frames", action: None, options: &["--from"], help: help::FRAMES, run: frames::frames },
+    Command {
+        name: "round-trip",
+        action: None,
+        options: &["--from", "--via", "--request"],
+        help: help::ROUND_TRIP,
+        run: round_trip::round_trip,
+    },
+    Command { name: "sheet", action: Some("check"), options: &[], help: help::SHEET, run: sheet::sheet },
 ];
 
 fn main() -> ExitCode {
@@ -79,9 +91,9 @@ fn run_command(command: &Command, arguments: Vec<OsString>) -> Status {
     }
 }
 
-/// `adapter help` with or without the name of a command.
+/// `adapter help` with or without the name of a command, and its action.
 fn explain(arguments: Vec<OsString>) -> Status {
-    let [name] = &arguments[..] else { return print(help::GENERAL) };
+    let [name, ..] = &arguments[..] else { return print(help::GENERAL) };
     match COMMANDS.iter().find(|c| Some(c.name) == name.to_str()) {
         Some(command) => print(command.help),
         None => misused(&format!("no command {}", files::shown(name)), "adapter --help"),

@@ -9,6 +9,8 @@ use std::path::PathBuf;
 
 pub struct Command {
     pub name: &'static str,
+    /// The word that must stand behind the name, where there is one.
+    pub action: Option<&'static str>,
     pub options: &'static [&'static str],
     pub help: &'static str,
     pub run: fn(&Options) -> Status,
@@ -38,6 +40,13 @@ pub fn parse(command: &Command, arguments: Vec<OsString>) -> Result<Parsed, Stri
     let mut values = Values::new();
     let mut inputs = Vec::new();
     let mut arguments = arguments.into_iter();
+    if let Some(action) = command.action {
+        match arguments.next() {
+            Some(word) if word == action => (),
+            Some(word) if word == "--help" || word == "-h" => return Ok(Parsed::Help),
+            _ => return Err(format!("the next word must be {action}")),
+        }
+    }
     while let Some(argument) = arguments.next() {
         match argument.as_bytes() {
             b"--" => inputs.extend(arguments.by_ref().map(input)),

@@ -4,19 +4,21 @@ pub const VERSION: &str = "adapter, the AMR-WB voice adapter's program over leve
 
 pub const USAGE: &str = "\
 usage: adapter convert|validate|report|frames|round-trip [OPTION..] [INPUT..]
+       adapter sheet check [INPUT..]
        adapter --help, adapter COMMAND --help, adapter --version
 ";
 
 pub const GENERAL: &str = "\
 usage: adapter COMMAND [OPTION..] [INPUT..]
 
-Works on recordings of AMR-WB frames, of at most 16777215 octets.
+Works on recordings of AMR-WB frames, of at most 16777215 octets, and on ordering tables that a user supplies (sheets).
 
   convert      writes a recording in another format
   validate     says whether a recording is valid
   report       counts a recording's frames by class
   frames       lists a recording's frames
   round-trip   says whether a recording comes back unchanged from another format
+  sheet check  says whether a text is a sheet of mode 5, 6, 7 or 8
   help         this text; with a command's name, that command's
 
   adapter COMMAND --help    what the command does, and its options
@@ -37,7 +39,7 @@ the end; on a terminal a line shows how far it is.
 
 Exit status, the highest of all inputs':
   0  done
-  1  a recording was refused, or did not come back unchanged
+  1  a recording or a sheet was refused, or a recording did not come back unchanged
   2  wrong use, or a format that must be named
   3  an input could not be read, or an output could not be written
 ";
@@ -120,4 +122,24 @@ frame's mode indication that is not its type, and a mode request that is not the
   --request MODE       the mode request of both conversions, 0 to 8; 0 where it is not given
 
 Exit status: 0 unchanged, 1 changed or refused, 2 wrong use, 3 input or output failed.
+";
+
+pub const SHEET: &str = "\
+usage: adapter sheet check [INPUT..]
+
+Reads a sheet: an ordering table of mode 5, 6, 7 or 8 that a user supplies as text. Prints, for a valid one:
+  NAME: valid, mode N, N bits
+and otherwise the refusal, on standard error, with the first line that differs from the form, or the numbers that are
+missing and the lines that have others in their place.
+
+The text has these lines, each ended by one line feed, and nothing else:
+  mode=5
+  bits=365
+  d0=0
+  d1=4
+and so on to d364. Modes 5 to 8 have 365, 397, 461 and 477 bits, K, and lines to d(K-1). Numbers are decimal without
+leading zeros; behind d0= to d(K-1)= each of 0 to K-1 stands once. d1=4 puts the codec's bit s(5) into d(1) of the core,
+as tables B.6 to B.9 of TS 26.201 print it.
+
+Exit status: 0 all are valid, 1 refused, 2 wrong use, 3 input or output failed.
 ";

@@ -10,6 +10,9 @@ pub const REPORT_LIMIT: usize = 65_536;
 /// Octets of the longest packed core, type 8's.
 const LONGEST_CORE: usize = 60;
 
+/// Numbers of the longest sheet, mode 8's.
+const LONGEST_SHEET: usize = 477;
+
 /// The type of a SID frame.
 pub const SID: u64 = 9;
 
@@ -58,6 +61,21 @@ pub struct Counts {
     pub empty: u64,
 }
 
+#[repr(C)]
+struct SheetAnswer {
+    refusal: u64,
+    frame: u64,
+    octet: u64,
+    sheet: Sheet,
+}
+
+/// The mode of a sheet, and how many numbers it has.
+#[repr(C)]
+pub struct Sheet {
+    pub mode: u64,
+    pub numbers: u64,
+}
+
 #[link(name = "level_three", kind = "static")]
 extern "C" {
     fn amrwb_validate(format: u64, rec: *const u8, len: usize) -> Answer;
@@ -66,6 +84,7 @@ extern "C" {
     fn amrwb_view_open(format: u64, rec: *const u8, len: usize) -> View;
     fn amrwb_view_next(format: u64, offset: u64, number: u64, rec: *const u8, len: usize, core: *mut u8, core_len: usize) -> View;
     fn amrwb_report(rec: *const u8, len: usize) -> CountsAnswer;
+    fn amrwb_sheet_read(text: *const u8, len: usize, numbers: *mut u16, numbers_len: usize) -> SheetAnswer;
 }
 
 extern "C" {
@@ -102,6 +121,14 @@ pub fn report(recording: &[u8]) -> Result<Counts, Refusal> {
     let a = unsafe { amrwb_report(recording.as_ptr(), recording.len()) };
     accepted(a.refusal, a.frame, a.octet)?;
     Ok(a.counts)
+}
+
+/// A sheet that is read from text. Its numbers are not kept.
+pub fn sheet(text: &[u8]) -> Result<Sheet, Refusal> {
+    let mut numbers = [0; LONGEST_SHEET];
+    let a = unsafe { amrwb_sheet_read(text.as_ptr(), text.len(), numbers.as_mut_ptr(), numbers.len()) };
+    accepted(a.refusal, a.frame, a.octet)?;
+    Ok(a.sheet)
 }
 
 /// One frame of a recording: its place, its fields, and the number of its reception class, 1 to 7.

@@ -7,25 +7,27 @@ pub struct Refusal {
     pub octet: u64,
 }
 
-/// In the words of include/amrwb.h; the first is 1's. The consoles' 27 cannot come here.
-const MEANINGS: [&str; 17] = [
-    "no octets",
-    "reserved frame type, 10 to 13",
-    "fewer octets than the type's",
-    "octets behind a single frame",
-    "spare or filling bit 1",
-    "a mode or field out of range",
-    "CRC",
-    "header of a stored recording",
-    "recording too long, read or about to be written",
-    "buffer shorter than needed",
-    "another argument out of its range",
-    "codec order of modes 5 to 8",
-    "FQC 3",
-    "the link has no set",
-    "the link has a set",
-    "RFCI or type not in the set",
-    "a sub-flow's buffer with another length than its octets, or with a filling bit 1",
+/// By number, in the words of include/amrwb.h. The consoles' 27 cannot come here.
+const MEANINGS: [(u64, &str); 19] = [
+    (1, "no octets"),
+    (2, "reserved frame type, 10 to 13"),
+    (3, "fewer octets than the type's"),
+    (4, "octets behind a single frame"),
+    (5, "spare or filling bit 1"),
+    (6, "a mode or field out of range"),
+    (7, "CRC"),
+    (8, "header of a stored recording"),
+    (9, "recording too long, read or about to be written"),
+    (10, "buffer shorter than needed"),
+    (11, "another argument out of its range"),
+    (12, "no sheet for modes 5 to 8"),
+    (13, "FQC 3"),
+    (14, "the link has no set"),
+    (15, "the link has a set"),
+    (16, "RFCI or type not in the set"),
+    (17, "a sub-flow's buffer with another length than its octets, or with a filling bit 1"),
+    (23, "text that has not a sheet's form"),
+    (24, "a number missing from a sheet"),
 ];
 
 /// How long a frame lasts.
@@ -33,8 +35,7 @@ pub const FRAME_MS: u64 = 20;
 
 impl Refusal {
     fn meaning(&self) -> &'static str {
-        let place = (self.number as usize).wrapping_sub(1);
-        MEANINGS.get(place).copied().unwrap_or("no number of document 01")
+        MEANINGS.iter().find(|m| m.0 == self.number).map_or("no number of document 01", |m| m.1)
     }
 }
 

@@ -21,6 +21,10 @@ odd-mod : (n : ℕ) → odd (n % 2) ≡ odd n
 unfolding odd
 odd-mod n = ap (λ (m : ℕ). eqb m 1) (mod-mod n 2)
 
+pub one_if-most : (b : Bool) → one_if b ≤ 1
+one_if-most true = omega arith
+one_if-most false = omega arith
+
 odd_one_if : (b : Bool) → odd (one_if b) ≡ b
 unfolding odd
 odd_one_if true = refl
@@ -85,11 +89,7 @@ pub num-lt : (k : ℕ) (l : List Bool) → num k l < 2 ^ k
 unfolding num
 num-lt zero l = le_refl 1
 num-lt (suc k) [] = pow_pos (suc k)
-num-lt (suc k) (b ∷ l) = rw (pow-succ' 2 k) (digits_lt (one_if_lt b) (num-lt k l))
-  where
-    one_if_lt : (b : Bool) → one_if b < 2
-    one_if_lt true = le_refl 2
-    one_if_lt false = zero-lt-suc 1
+num-lt (suc k) (b ∷ l) = rw (pow-succ' 2 k) (digits_lt (omega (arith, one_if-most b)) (num-lt k l))
 
 pub num-digits : (k n : ℕ) → num k (digits k n) ≡ n % 2 ^ k
 unfolding num digits

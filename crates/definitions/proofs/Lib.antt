@@ -7,6 +7,7 @@ pub mod Refusals
 pub mod OrderRefusals
 pub mod WrongReaders
 pub mod WrongBuilders
+pub mod Counting
 pub mod Order
 pub mod WrongOrders
 mod Fixed

@@ -28,6 +28,9 @@ pub data Decides (fault : ℕ → Type 0) : List (ℕ × Bool) → Type 0 where
 pub same_number : {A : Type 0} (m n : ℕ) → ◌≡◌ {A = Outcome A} (refused m) (refused n) → m ≡ n
 same_number m n e = cc
 
+pub same_value : {A : Type 0} (a b : A) → ok a ≡ ok b → a ≡ b
+same_value a b e = cc
+
 pub no_refusal : {A B : Type 0} (a : A) (n : ℕ) → ok a ≡ refused n → B
 no_refusal a n e = absurd (let z : ◌≡◌ {A = ℕ} 0 1 = cc in omega arith)
 

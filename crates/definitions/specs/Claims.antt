@@ -1,10 +1,10 @@
 -- Demand 2 for one frame: what is to be true of a reader, of the layouts, of the builder and of the codec order.
-use Rattle.std.specs.Prelude.{◌≡◌, true, false, ◌↔◌, List, [], ◌∷◌, ◌++◌, ℕ, ◌+◌, ◌≤◌, ◌<◌, length, get_or, take, eqb}
-use Rattle.bits.specs.Bits.{one_if, bits, Octets, pack}
+use Rattle.std.specs.Prelude.{◌≡◌, Bool, true, false, ◌↔◌, List, ◌++◌, ℕ, ◌+◌, ◌≤◌, ◌<◌, length, get_or, take}
+use Rattle.bits.specs.Bits.{bits, Octets, pack}
 use Rattle.definitions.specs.Outcome.{Outcome, ok}
-use Rattle.definitions.specs.Frames.{Format, Frame, known, core_bits, core_octets, fields_good, layout}
+use Rattle.definitions.specs.Frames.{Format, highest_mode, Frame, known, core_bits, core_octets, fields_good, layout}
 use Rattle.definitions.specs.Reading.{format_numbered, core_fill_clear, frame_of}
-use Rattle.definitions.specs.Order.{highest_ordered_mode, order_table, codec_bit, zero_or_one, row_bits}
+use Rattle.definitions.specs.Order.{highest_tabled_mode, order_table, codec_bit, zero_or_one, row_bits, table_for, times}
 
 -- a frame that the format can hold
 pub record Valid (f : Format) (x : Frame) : Type 0 where
@@ -61,11 +61,6 @@ pub record BuildsFrames (build : Builder) : Type 0 where
 
 -- ---- codec order
 
--- how many times a table has n
-abbrev pub times : ℕ → List ℕ → ℕ
-times n [] = 0
-times n (t ∷ table) = one_if (eqb n t) + times n table
-
 -- "Each table holds each of 0 to K-1 exactly one time", and nothing else
 pub record Permutes (k : ℕ) (table : List ℕ) : Type 0 where
   pub whole : length table ≡ k
@@ -73,22 +68,36 @@ pub record Permutes (k : ℕ) (table : List ℕ) : Type 0 where
   pub once : (n : ℕ) → n < k → times n table ≡ 1
 
 pub record TablesPermute : Type 0 where
-  pub each : (m : ℕ) → m ≤ highest_ordered_mode → Permutes (core_bits m) (order_table m)
+  pub each : (m : ℕ) → m ≤ highest_tabled_mode → Permutes (core_bits m) (order_table m)
+
+-- "24 when some number below K is missing, however large the one in its place": the test of K numbers is the rule of the tables
+pub record TestsTables (complete : (k : ℕ) → List ℕ → Bool) : Type 0 where
+  pub exactly : (k : ℕ) (table : List ℕ) → length table ≡ k → (complete k table ≡ true) ↔ Permutes k table
 
 abbrev pub OrderCall : Type 0
-OrderCall = (mode : ℕ) → List ℕ → (room : ℕ) → Outcome (List ℕ)
+OrderCall = (mode : ℕ) → (sheet octets : List ℕ) → (room : ℕ) → Outcome (List ℕ)
+
+-- the mode has a table: its own, or the sheet, where this is a permutation
+abbrev pub HasTable : (mode : ℕ) → (sheet : List ℕ) → Type 0
+HasTable m sheet = (m ≤ highest_mode) × (highest_tabled_mode < m → Permutes (core_bits m) sheet)
 
 -- demand 2, of the call from row to core: "d(j) = s(table_m(j)+1)", in exactly the core's octets, whose filling bits are 0. With `OrdersBack` the
 -- other call is fixed too
 pub record OrdersByTables (to_core : OrderCall) : Type 0 where
-  pub bit : (m : ℕ) (row core : List ℕ) (room j : ℕ) → m ≤ highest_ordered_mode → to_core m row room ≡ ok core → j < core_bits m
-      → get_or (bits core) j false ≡ codec_bit (row_bits row) (get_or (order_table m) j 0 + 1)
-  pub packed : (m : ℕ) (row core : List ℕ) (room : ℕ) → m ≤ highest_ordered_mode → to_core m row room ≡ ok core
+  pub bit : (m : ℕ) (sheet row core : List ℕ) (room j : ℕ) → to_core m sheet row room ≡ ok core → j < core_bits m
+      → get_or (bits core) j false ≡ codec_bit (row_bits row) (get_or (table_for m sheet) j 0 + 1)
+  pub packed : (m : ℕ) (sheet row core : List ℕ) (room : ℕ) → to_core m sheet row room ≡ ok core
       → Octets core × (length core ≡ core_octets m) × (core_fill_clear m core ≡ true)
 
--- demand 2, of the two calls: with room for what each writes neither is refused, and the second gives back what the first was handed
+-- demand 2, of the two calls, "for all nine modes together": with room for what each writes neither is refused, and the second gives back what the
+-- first was handed
 pub record OrdersBack (to_core to_row : OrderCall) : Type 0 where
-  pub row_back : (m : ℕ) (row : List ℕ) (room room' : ℕ) → m ≤ highest_ordered_mode → length row ≡ core_bits m → zero_or_one row ≡ true → core_octets m ≤ room
-      → core_bits m ≤ room' → (core : List ℕ) × (to_core m row room ≡ ok core) × (to_row m core room' ≡ ok row)
-  pub core_back : (m : ℕ) (core : List ℕ) (room room' : ℕ) → m ≤ highest_ordered_mode → Octets core → length core ≡ core_octets m → core_fill_clear m core ≡ true
-      → core_bits m ≤ room → core_octets m ≤ room' → (row : List ℕ) × (to_row m core room ≡ ok row) × (to_core m row room' ≡ ok core)
+  pub row_back : (m : ℕ) (sheet row : List ℕ) (room room' : ℕ) → HasTable m sheet → length row ≡ core_bits m → zero_or_one row ≡ true
+      → core_octets m ≤ room → core_bits m ≤ room' → (core : List ℕ) × (to_core m sheet row room ≡ ok core) × (to_row m sheet core room' ≡ ok row)
+  pub core_back : (m : ℕ) (sheet core : List ℕ) (room room' : ℕ) → HasTable m sheet → Octets core → length core ≡ core_octets m
+      → core_fill_clear m core ≡ true → core_bits m ≤ room → core_octets m ≤ room'
+      → (row : List ℕ) × (to_row m sheet core room ≡ ok row) × (to_core m sheet row room' ≡ ok core)
+
+-- "Modes 0 to 4 leave it unread"
+pub record LeavesUnread (order : OrderCall) : Type 0 where
+  pub unread : (m : ℕ) (sheet sheet' octets : List ℕ) (room : ℕ) → m ≤ highest_tabled_mode → order m sheet octets room ≡ order m sheet' octets room

@@ -1,5 +1,6 @@
 pub mod Outcome
 pub mod Runs
+pub mod Decimal
 pub mod Frames
 pub mod Reading
 pub mod Tables

@@ -6,15 +6,15 @@ use Rattle.parity.specs.Crc.{crc}
 use Rattle.definitions.specs.Outcome.{refused, ok}
 use Rattle.definitions.specs.Frames.{Format, if1, if2, storage, highest_mode, sid_type, highest_type, sid_mode_at, crc_bits, Frame, core_bits, class_a, octets, core_octets, carries_modes, header_bits, type_in, core_in, frame_in}
 use Rattle.definitions.specs.Reading.{format_numbered, frame_of}
-use Rattle.definitions.specs.Order.{highest_ordered_mode}
+use Rattle.definitions.specs.Order.{highest_tabled_mode, times}
 use Rattle.definitions.specs.Claims.{Reader, ReadsFrames, ReadsOneFrame, FrameCall, ReadsCalls, Builder, BuildsFrames, OrderCall, OrdersByTables, OrdersBack}
 
 -- ---- the order
 
 -- document 01's "Order", for the calls of one frame. Its two places in front of 10, 6 in Up and 9 for a recording about to be written, concern
--- no call here. "A call tests what concerns it": the other numbers have no condition
+-- no call here. "A call tests what concerns it": the other numbers have no condition. Document 02, h: "24 in 12's place", and there "after 23"
 abbrev pub refusal_order : List ℕ
-refusal_order = 11 ∷ 14 ∷ 15 ∷ 9 ∷ 8 ∷ 1 ∷ 2 ∷ 3 ∷ 4 ∷ 5 ∷ 6 ∷ 7 ∷ 12 ∷ 13 ∷ 16 ∷ 17 ∷ 10 ∷ []
+refusal_order = 11 ∷ 14 ∷ 15 ∷ 9 ∷ 8 ∷ 1 ∷ 2 ∷ 3 ∷ 4 ∷ 5 ∷ 6 ∷ 7 ∷ 12 ∷ 23 ∷ 24 ∷ 13 ∷ 16 ∷ 17 ∷ 10 ∷ []
 
 -- n is the first number of the list whose condition holds
 pub data FirstOf (fault : ℕ → Type 0) : List ℕ → ℕ → Type 0 where
@@ -107,26 +107,33 @@ pub record RefusesBuilds (build : Builder) : Type 0 where
 
 -- ---- the calls of codec order
 
--- from the row to the core: 11 a mode above 8, another length of the row, or a value above 1; "12 codec order for modes 5 to 8"; 10
-pub data ToCoreFault (mode : ℕ) (row : List ℕ) (room : ℕ) : ℕ → Type 0 where
-  mode_above : highest_mode < mode → ToCoreFault mode row room 11
-  another_length : (length row ≡ core_bits mode → ⊥) → ToCoreFault mode row room 11
-  value_above : (i : ℕ) → 1 < get_or row i 0 → ToCoreFault mode row room 11
-  no_order : highest_ordered_mode < mode → ToCoreFault mode row room 12
-  too_little_room : room < core_octets mode → ToCoreFault mode row room 10
+-- what is wrong with a sheet, in the modes 5 to 8: 11 "for a length other than K or 0"; 12 "only where no sheet is lent"; 24
+pub data SheetFault (mode : ℕ) (sheet : List ℕ) : ℕ → Type 0 where
+  another_length : (length sheet ≡ core_bits mode → ⊥) → (length sheet ≡ 0 → ⊥) → SheetFault mode sheet 11
+  not_lent : length sheet ≡ 0 → SheetFault mode sheet 12
+  missing : (n : ℕ) → n < core_bits mode → times n sheet ≡ 0 → SheetFault mode sheet 24
 
--- from the core to the row: 11 a mode above 8 or another length of the core; 5 a filling bit 1, as in a call that builds a frame; 12; 10
-pub data ToRowFault (mode : ℕ) (core : List ℕ) (room : ℕ) : ℕ → Type 0 where
-  mode_above : highest_mode < mode → ToRowFault mode core room 11
-  another_length : (length core ≡ core_octets mode → ⊥) → ToRowFault mode core room 11
-  filling_bit : (j : ℕ) → core_bits mode ≤ j → j < 8 * length core → IsOne (bits core) j → ToRowFault mode core room 5
-  no_order : highest_ordered_mode < mode → ToRowFault mode core room 12
-  too_little_room : room < core_bits mode → ToRowFault mode core room 10
+-- from the row to the core: 11 a mode above 8, another length of the row, or a value above 1; the sheet; 10
+pub data ToCoreFault (mode : ℕ) (sheet row : List ℕ) (room : ℕ) : ℕ → Type 0 where
+  mode_above : highest_mode < mode → ToCoreFault mode sheet row room 11
+  another_length : (length row ≡ core_bits mode → ⊥) → ToCoreFault mode sheet row room 11
+  value_above : (i : ℕ) → 1 < get_or row i 0 → ToCoreFault mode sheet row room 11
+  in_sheet : {n : ℕ} → highest_tabled_mode < mode → SheetFault mode sheet n → ToCoreFault mode sheet row room n
+  too_little_room : room < core_octets mode → ToCoreFault mode sheet row room 10
+
+-- from the core to the row: 11 a mode above 8 or another length of the core; 5 a filling bit 1, as in a call that builds a frame; the sheet; 10
+pub data ToRowFault (mode : ℕ) (sheet core : List ℕ) (room : ℕ) : ℕ → Type 0 where
+  mode_above : highest_mode < mode → ToRowFault mode sheet core room 11
+  another_length : (length core ≡ core_octets mode → ⊥) → ToRowFault mode sheet core room 11
+  filling_bit : (j : ℕ) → core_bits mode ≤ j → j < 8 * length core → IsOne (bits core) j → ToRowFault mode sheet core room 5
+  in_sheet : {n : ℕ} → highest_tabled_mode < mode → SheetFault mode sheet n → ToRowFault mode sheet core room n
+  too_little_room : room < core_bits mode → ToRowFault mode sheet core room 10
 
 pub record RefusesOrders (to_core to_row : OrderCall) : Type 0 where
-  pub to_core_exactly : (mode : ℕ) (row : List ℕ) (room n : ℕ) → (to_core mode row room ≡ refused n) ↔ FirstOf (ToCoreFault mode row room) refusal_order n
-  pub to_row_exactly : (mode : ℕ) (core : List ℕ) (room n : ℕ) → Octets core
-      → (to_row mode core room ≡ refused n) ↔ FirstOf (ToRowFault mode core room) refusal_order n
+  pub to_core_exactly : (mode : ℕ) (sheet row : List ℕ) (room n : ℕ)
+      → (to_core mode sheet row room ≡ refused n) ↔ FirstOf (ToCoreFault mode sheet row room) refusal_order n
+  pub to_row_exactly : (mode : ℕ) (sheet core : List ℕ) (room n : ℕ) → Octets core
+      → (to_row mode sheet core room ≡ refused n) ↔ FirstOf (ToRowFault mode sheet core room) refusal_order n
 
 -- ---- nothing is left free
 
@@ -143,4 +150,5 @@ pub record AnswersFixed : Type 0 where
   pub orders : (to_core to_row to_core' to_row' : OrderCall)
       → OrdersByTables to_core → OrdersBack to_core to_row → RefusesOrders to_core to_row
       → OrdersByTables to_core' → OrdersBack to_core' to_row' → RefusesOrders to_core' to_row'
-      → (mode : ℕ) (row core : List ℕ) (room : ℕ) → Octets core → (to_core mode row room ≡ to_core' mode row room) × (to_row mode core room ≡ to_row' mode core room)
+      → (mode : ℕ) (sheet row core : List ℕ) (room : ℕ) → Octets core
+      → (to_core mode sheet row room ≡ to_core' mode sheet row room) × (to_row mode sheet core room ≡ to_row' mode sheet core room)

@@ -6,8 +6,8 @@
 ghost use Rattle.std.specs.Prelude.{true, false};
 ghost use Rattle.definitions.specs.Frames.{layout};
 ghost use Rattle.definitions.specs.Reading.{read_frame, read_with, read_call, build_frame};
-ghost use Rattle.definitions.specs.Order.{to_core_call, to_row_call};
-ghost use Rattle.definitions.specs.Claims.{ReadsFrames, ReadsOneFrame, ReadsCalls, LayoutsDiffer, BuildsFrames, TablesPermute, OrdersBack, OrdersByTables};
+ghost use Rattle.definitions.specs.Order.{none_missing, to_core_call, to_row_call};
+ghost use Rattle.definitions.specs.Claims.{ReadsFrames, ReadsOneFrame, ReadsCalls, LayoutsDiffer, BuildsFrames, TablesPermute, TestsTables, OrdersBack, OrdersByTables, LeavesUnread};
 ghost use Rattle.definitions.specs.Refusals.{RefusesFrames, RefusesCalls, RefusesBuilds, RefusesOrders, AnswersFixed};
 ghost use Rattle.definitions.specs.WrongReaders.{WrongReaders, WrongSingleReaders, WrongRefusals, WrongCalls};
 ghost use Rattle.definitions.specs.WrongBuilders.{WrongLayouts, WrongBuilders};
@@ -49,10 +49,11 @@ pub fn answers_claim()
     ensures { AnswersFixed }
 {}
 
-// Does nothing. Its contract: the tables of codec order are permutations, each of the two calls undoes the other, the core's bits are the row's by
-// the table, each refusal comes on its condition, and wrong orders.
+// Does nothing. Its contract: the tables of codec order are permutations, as is a sheet that lacks no number; by either, each of the two calls undoes
+// the other, and the core's bits are the row's by the table; modes 0 to 4 leave the sheet unread, each refusal comes on its condition, and wrong
+// orders.
 pub fn order_claim()
-    ensures { TablesPermute × OrdersBack to_core_call to_row_call × OrdersByTables to_core_call × RefusesOrders to_core_call to_row_call × WrongOrders }
+    ensures { TablesPermute × TestsTables none_missing × OrdersBack to_core_call to_row_call × OrdersByTables to_core_call × LeavesUnread to_core_call × LeavesUnread to_row_call × RefusesOrders to_core_call to_row_call × WrongOrders }
 {}
 
 // Does nothing. Its contract: the reception class of a frame is told by its type, its quality and the STI bit of a SID frame alone; this decides the

@@ -5,7 +5,7 @@ use Rattle.definitions.specs.Frames as paper
 use Rattle.frame.specs.declared.Format.{Format}
 use Rattle.frame.specs.declared.Format.TheVariants.{If1, If2, Storage}
 use Rattle.frame.specs.declared.Refusal.{Refusal}
-use Rattle.frame.specs.declared.Refusal.TheVariants.{NoOctets, ReservedType, TooShort, OctetsAfter, SpareBit, FieldRange, CrcMismatch, StorageHeader, TooLong, OutputShort, ArgumentRange, NoCodecOrder, FqcReserved, NoSet, SetPresent, NotInSet, SubflowBuffer, ConsoleFull}
+use Rattle.frame.specs.declared.Refusal.TheVariants.{NoOctets, ReservedType, TooShort, OctetsAfter, SpareBit, FieldRange, CrcMismatch, StorageHeader, TooLong, OutputShort, ArgumentRange, NoCodecOrder, FqcReserved, NoSet, SetPresent, NotInSet, SubflowBuffer, SheetForm, SheetIncomplete, ConsoleFull}
 use Rattle.frame.specs.declared.FrameHeader.{FrameHeader}
 
 abbrev pub format_of : Format → paper.Format
@@ -13,7 +13,7 @@ format_of If1 = paper.if1
 format_of If2 = paper.if2
 format_of Storage = paper.storage
 
--- document 01, "Refused because of the input" (1 to 13) and "Refused because of the state" (14 to 17); document 02, m (27)
+-- document 01, "Refused because of the input" (1 to 13) and "Refused because of the state" (14 to 17); document 02, h (23 and 24) and m (27)
 abbrev pub number_of : Refusal → ℕ
 number_of NoOctets = 1
 number_of ReservedType = 2
@@ -32,6 +32,8 @@ number_of NoSet = 14
 number_of SetPresent = 15
 number_of NotInSet = 16
 number_of SubflowBuffer = 17
+number_of SheetForm = 23
+number_of SheetIncomplete = 24
 number_of ConsoleFull = 27
 
 -- the frame that a header and a core make

@@ -50,6 +50,8 @@ pub enum Refusal {
     SetPresent = 15,
     NotInSet = 16,
     SubflowBuffer = 17,
+    SheetForm = 23,
+    SheetIncomplete = 24,
     ConsoleFull = 27,
 }
 

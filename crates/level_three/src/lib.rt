@@ -14,8 +14,8 @@ use downlink::Answered;
 pub use level_two::{
     amrwb_build_if1, amrwb_build_if2, amrwb_build_stored, amrwb_class, amrwb_consoles_add,
     amrwb_consoles_fresh, amrwb_consoles_slot, amrwb_convert, amrwb_convert_length,
-    amrwb_order_to_core, amrwb_order_to_row, amrwb_read_frame, amrwb_report, amrwb_validate,
-    amrwb_view_next, amrwb_view_open,
+    amrwb_order_to_core, amrwb_order_to_row, amrwb_read_frame, amrwb_report, amrwb_sheet_read,
+    amrwb_validate, amrwb_view_next, amrwb_view_open,
 };
 use link_answers::{DownNumbers, LinkAnswer, moved_answer};
 use links::Link;

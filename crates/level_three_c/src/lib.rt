@@ -13,6 +13,8 @@ ghost use Rattle.recordings.specs.Viewer.{open_call, view_call};
 ghost use Rattle.recordings.specs.Report.{report_call};
 ghost use Rattle.links.specs.Calls.{fresh_link, up_call, down_call};
 ghost use Rattle.links.specs.History.{link_step, assign, release, rate};
+ghost use Rattle.order_sheets_spec.specs.Sheets.{sheet_call};
+ghost use Rattle.order_sheets.specs.Flat.{FlatSheet};
 ghost use Rattle.consoles_spec.specs.Calls.{fresh_consoles, add, slot, consoles_step};
 ghost use Rattle.consoles.specs.Flat.{consoles_numbers};
 ghost use Rattle.answers.specs.Flat.{placed_numbers, FlatConversion, FlatOutput, FlatFrame};
@@ -25,6 +27,7 @@ use consoles_spec::Consoles;
 use level_two::{ClassAnswer, ReportAnswer, ViewAnswer};
 use link_answers::{DownNumbers, LinkAnswer};
 use links::Link;
+use order_sheets::SheetAnswer;
 
 #[unsafe(no_mangle)]
 pub extern "C" fn amrwb_validate(format: u64, rec: &[u8]) -> Answer
@@ -99,17 +102,34 @@ pub extern "C" fn amrwb_build_stored(
 }
 
 #[unsafe(no_mangle)]
-pub extern "C" fn amrwb_order_to_core(mode: u64, row: &[u8], core: &mut [u8]) -> Answer
-    ensures { FlatOutput (to_core_call mode row.now (length core.old)) core.old core.new result }
+pub extern "C" fn amrwb_order_to_core(
+    mode: u64,
+    sheet: &[u16],
+    row: &[u8],
+    core: &mut [u8],
+) -> Answer
+    ensures { FlatOutput (to_core_call mode sheet.now row.now (length core.old)) core.old core.new result }
 {
-    level_three::amrwb_order_to_core(mode, row, core)
+    level_three::amrwb_order_to_core(mode, sheet, row, core)
 }
 
 #[unsafe(no_mangle)]
-pub extern "C" fn amrwb_order_to_row(mode: u64, core: &[u8], row: &mut [u8]) -> Answer
-    ensures { FlatOutput (to_row_call mode core.now (length row.old)) row.old row.new result }
+pub extern "C" fn amrwb_order_to_row(
+    mode: u64,
+    sheet: &[u16],
+    core: &[u8],
+    row: &mut [u8],
+) -> Answer
+    ensures { FlatOutput (to_row_call mode sheet.now core.now (length row.old)) row.old row.new result }
 {
-    level_three::amrwb_order_to_row(mode, core, row)
+    level_three::amrwb_order_to_row(mode, sheet, core, row)
+}
+
+#[unsafe(no_mangle)]
+pub extern "C" fn amrwb_sheet_read(text: &[u8], numbers: &mut [u16]) -> SheetAnswer
+    ensures { FlatSheet (sheet_call text.now (length numbers.old)) numbers.old numbers.new result }
+{
+    level_three::amrwb_sheet_read(text, numbers)
 }
 
 #[unsafe(no_mangle)]

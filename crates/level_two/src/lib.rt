@@ -14,11 +14,13 @@ ghost use Rattle.recordings.specs.Conversion.{convert_call, length_call};
 ghost use Rattle.recordings.specs.Viewer.{open_call, view_call};
 ghost use Rattle.recordings.specs.Report.{report_call};
 ghost use Rattle.frame.specs.Answers.{number_of};
+ghost use Rattle.order_sheets_spec.specs.Sheets.{sheet_call};
+ghost use Rattle.order_sheets.specs.Flat.{FlatSheet};
 ghost use Rattle.consoles_spec.specs.Calls.{fresh_consoles, add, slot, consoles_step};
 ghost use Rattle.consoles.specs.Flat.{consoles_numbers};
 ghost use Rattle.answers.specs.Flat.{placed_numbers, FlatConversion, FlatOutput, FlatFrame};
 ghost use Rattle.level_two.specs.Flat.{class_number, class_numbers, unshown, open_numbers, FlatView, report_numbers};
-ghost use Rattle.level_two.specs.Claims.{ViewerLentOctets};
+ghost use Rattle.level_two.specs.Claims.{ViewerLentOctets, SheetLentNumbers};
 ghost use Rattle.reception.specs.Classes.{reception_of, classified_of};
 ghost use Rattle.report.specs.Answers.{reported_of};
 
@@ -28,6 +30,7 @@ use consoles_spec::Consoles;
 use frame::table::core_octets;
 use frame::{Format, Refusal, SID};
 pub use level_one::{amrwb_build_if1, amrwb_build_if2};
+use order_sheets::SheetAnswer;
 use reception::{Reception, SidClass, SpeechClass};
 use recording_reader::RefusedAt;
 use report::Reported;
@@ -189,16 +192,22 @@ pub fn amrwb_build_stored(frame_type: u64, quality: u64, core: &[u8], out: &mut 
     frame_builder::build(Format::Storage, frame_type, quality, 0, 0, core, out).into()
 }
 
-pub fn amrwb_order_to_core(mode: u64, row: &[u8], core: &mut [u8]) -> Answer
-    ensures { FlatOutput (to_core_call mode row.now (length core.old)) core.old core.new result }
+pub fn amrwb_order_to_core(mode: u64, sheet: &[u16], row: &[u8], core: &mut [u8]) -> Answer
+    ensures { FlatOutput (to_core_call mode sheet.now row.now (length core.old)) core.old core.new result }
 {
-    codec_order::order_to_core(mode, row, core).into()
+    codec_order::order_to_core(mode, sheet, row, core).into()
 }
 
-pub fn amrwb_order_to_row(mode: u64, core: &[u8], row: &mut [u8]) -> Answer
-    ensures { FlatOutput (to_row_call mode core.now (length row.old)) row.old row.new result }
+pub fn amrwb_order_to_row(mode: u64, sheet: &[u16], core: &[u8], row: &mut [u8]) -> Answer
+    ensures { FlatOutput (to_row_call mode sheet.now core.now (length row.old)) row.old row.new result }
 {
-    codec_order::order_to_row(mode, core, row).into()
+    codec_order::order_to_row(mode, sheet, core, row).into()
+}
+
+pub fn amrwb_sheet_read(text: &[u8], numbers: &mut [u16]) -> SheetAnswer
+    ensures { FlatSheet (sheet_call text.now (length numbers.old)) numbers.old numbers.new result }
+{
+    order_sheets::read_sheet(text, numbers).into()
 }
 
 pub fn amrwb_class(frame_type: u64, quality: u64, sti: u64) -> ClassAnswer
@@ -286,8 +295,8 @@ pub fn amrwb_consoles_slot(consoles: Consoles) -> ConsolesAnswer
     served_answer(consoles, consoles::slot(consoles))
 }
 
-// Does nothing. Its contract: demand 1 at the C interface, of the viewer. A refused call and one at the end leave every lent octet and the place,
-// and another writes the front of its buffer alone.
+// Does nothing. Its contract: demand 1 at the C interface, of the viewer and of a sheet that is read. A refused call, and the viewer's at the end,
+// leave all that is lent, and the place; another writes the front of its buffer alone.
 pub fn lent_octets_claim()
-    ensures { ViewerLentOctets }
+    ensures { ViewerLentOctets × SheetLentNumbers }
 {}

@@ -7,23 +7,24 @@ use native.Mathlib.Omega.{arith}
 use lib.ListN.{length, take}
 use Rattle.bits.specs.Bits.{bits, octets_for}
 use Rattle.definitions.specs.Reading.{overwritten}
-use Rattle.definitions.specs.Order.{order_table, zero_or_one, row_octets, unordered}
+use Rattle.definitions.specs.Order.{zero_or_one, row_octets, unordered, table_for}
 use Rattle.definitions.specs.Claims.{Permutes}
-use Rattle.definitions.proofs.Order.{tables_permute}
+use Rattle.definitions.proofs.Order.{table-permutes}
 use Rattle.order_tables.specs.Ready.{RowReady, CoreReady, with_row}
 
-pub core_asked : (m : ℕ) (row core : List ℕ) → RowReady m row core
-    → Permutes (length row) (order_table m) × (zero_or_one row ≡ true) × (octets_for (length (order_table m)) ≤ length core)
-core_asked m row core r =
-    let p = tables_permute.each m r.has_order in
-    (subst (λ k. Permutes k (order_table m)) (sym r.size) p, r.values, subst (λ k. octets_for k ≤ length core) (sym p.whole) r.room)
+pub core_asked : (m : ℕ) (sheet row core : List ℕ) → RowReady m sheet row core
+    → Permutes (length row) (table_for m sheet) × (zero_or_one row ≡ true) × (octets_for (length (table_for m sheet)) ≤ length core)
+core_asked m sheet row core r =
+    let p = table-permutes m sheet r.has_table in
+    (subst (λ k. Permutes k (table_for m sheet)) (sym r.size) p, r.values, subst (λ k. octets_for k ≤ length core) (sym p.whole) r.room)
 
-pub row_asked : (m : ℕ) (core row : List ℕ) → CoreReady m core row
-    → Permutes (length (order_table m)) (order_table m) × (length (order_table m) ≤ 8 * length core) × (length (order_table m) ≤ length row)
-row_asked m core row r =
-    let p = tables_permute.each m r.has_order in
-    (subst (λ k. Permutes k (order_table m)) (sym p.whole) p, omega (arith, p.whole, r.size), omega (arith, p.whole, r.room))
+pub row_asked : (m : ℕ) (sheet core row : List ℕ) → CoreReady m sheet core row
+    → Permutes (length (table_for m sheet)) (table_for m sheet) × (length (table_for m sheet) ≤ 8 * length core) × (length (table_for m sheet) ≤ length row)
+row_asked m sheet core row r =
+    let p = table-permutes m sheet r.has_table in
+    (subst (λ k. Permutes k (table_for m sheet)) (sym p.whole) p, omega (arith, p.whole, r.size), omega (arith, p.whole, r.room))
 
-pub row_put : (m : ℕ) (core row : List ℕ) → CoreReady m core row
-    → overwritten (row_octets (unordered (order_table m) (take (length (order_table m)) (bits core)))) row ≡ with_row m core row
-row_put m core row r = ap (λ k. overwritten (row_octets (unordered (order_table m) (take k (bits core)))) row) (tables_permute.each m r.has_order).whole
+pub row_put : (m : ℕ) (sheet core row : List ℕ) → CoreReady m sheet core row
+    → overwritten (row_octets (unordered (table_for m sheet) (take (length (table_for m sheet)) (bits core)))) row ≡ with_row m sheet core row
+row_put m sheet core row r =
+    ap (λ k. overwritten (row_octets (unordered (table_for m sheet) (take k (bits core)))) row) (table-permutes m sheet r.has_table).whole

@@ -1,12 +1,19 @@
-// Bits put in order by a table, and back: the codec's row, one octet of 0 or 1 for each bit, and the packed core. Its public functions are
-// `pub` for the crates of codec order; each asks what their callers have shown, of the table only that it is a permutation.
+// Bits put in order by a table, and back: the codec's row, one octet of 0 or 1 for each bit, and the packed core; and the test that a table
+// is a permutation, by marks. Its public functions are `pub` for the crates of codec order and of sheets; each asks what their callers have
+// shown, of the table only that it is a permutation, or for the test that it is no longer than the longest core.
 #![tactic(auto)]
 
-ghost use Rattle.std.specs.Prelude.{◌≡◌, true, ℕ, ◌*◌, ◌≤◌, ◌<◌, length, get_or, take};
+ghost use Rattle.std.specs.Prelude.{◌≡◌, true, false, not, ◌&&◌, cond, ℕ, ◌*◌, ◌≤◌, ◌<◌, length, get_or, set, take, ltb};
 ghost use Rattle.bits.specs.Bits.{num, bits, pack, octets_for};
 ghost use Rattle.definitions.specs.Reading.{overwritten};
-ghost use Rattle.definitions.specs.Order.{zero_or_one, row_bits, row_octets, ordered, unordered};
+ghost use Rattle.definitions.specs.Order.{zero_or_one, row_bits, row_octets, ordered, unordered, none_missing};
 ghost use Rattle.definitions.specs.Claims.{Permutes};
+
+// How many bits the longest core has, and so how many numbers a table has at most.
+pub const LONGEST: usize = 477;
+
+// The highest mode whose table is the adapter's own. Up to it no sheet is read.
+pub const HIGHEST_TABLED: u64 = 4;
 
 // Every octet of a row is 0 or 1.
 pub fn zero_or_one(row: &[u8]) -> bool
@@ -45,4 +52,31 @@ pub fn row_by(table: &[u16], core: &[u8], row: &mut [u8])
     for (j, n) in table.iter().enumerate() {
         row[usize::from(*n)] = u8::from(bits::bit_at(core, j));
     }
+}
+
+// Marks a number below k that has no mark yet; false for any other.
+pub fn mark(seen: &mut [bool], k: usize, n: u16) -> bool
+    requires { k ≤ length seen.old }
+    ensures { (result ≡ (ltb n k && not (get_or seen.old n false))) × (seen.new ≡ cond result (set seen.old n true) seen.old) }
+{
+    let n = usize::from(n);
+    if n >= k || seen[n] {
+        return false;
+    }
+    seen[n] = true;
+    true
+}
+
+// No number below the length of a table is missing from it.
+pub fn none_missing(table: &[u16]) -> bool
+    requires { length table.now ≤ 477 }
+    ensures { result ≡ none_missing (length table.now) table.now }
+{
+    let mut seen = [false; LONGEST];
+    for n in table {
+        if !mark(&mut seen, table.len(), *n) {
+            return false;
+        }
+    }
+    true
 }

@@ -8,8 +8,8 @@ use native.Mathlib.Omega.{arith}
 use lib.Dec.{eqb, leb}
 use lib.ListN.{length, drop, get_or, length-drop}
 use lib.Seq.{drop-drop}
-use Rattle.bits.specs.Bits.{Octets, one_if}
-use Rattle.bits.proofs.BitLaws.{octets-drop}
+use Rattle.bits.specs.Bits.{Octets}
+use Rattle.bits.proofs.BitLaws.{one_if-most, octets-drop}
 use Rattle.definitions.specs.Outcome.{refused, ok}
 use Rattle.definitions.specs.Frames.{storage, Frame}
 use Rattle.definitions.specs.Reading.{read_frame}
@@ -32,17 +32,13 @@ any_sti r t good a b = go (leb t 8) (eqb t 9) _ _ (sid_class good a) (sid_class 
     go false true x y u v = refl
     go false false x y u v = refl
 
-one_most : (b : Bool) → one_if b ≤ 1
-one_most true = omega arith
-one_most false = omega arith
-
 pub at_most_more : (n m : ℕ) (r : Report) (c : Reception) → AtMost n r → n < m → AtMost m (one_more r c)
 at_most_more n m r c h l = record {
   frames_fit = omega (arith, h.frames_fit);
-  speech_fit = omega (arith, h.speech_fit, one_most (is_speech c));
-  sid_fit = omega (arith, h.sid_fit, one_most (is_sid c));
-  lost_fit = omega (arith, h.lost_fit, one_most (is_speech_lost c));
-  none_fit = omega (arith, h.none_fit, one_most (is_no_data c));
+  speech_fit = omega (arith, h.speech_fit, one_if-most (is_speech c));
+  sid_fit = omega (arith, h.sid_fit, one_if-most (is_sid c));
+  lost_fit = omega (arith, h.lost_fit, one_if-most (is_speech_lost c));
+  none_fit = omega (arith, h.none_fit, one_if-most (is_no_data c));
 }
 
 -- ---- the scan

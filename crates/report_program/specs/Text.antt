@@ -1,16 +1,8 @@
 -- What the program prints, octet by octet (document 01, "Reception class and report").
-use Rattle.std.specs.Prelude.{cond, List, [], ◌∷◌, ◌++◌, ℕ, zero, suc, ◌+◌, ◌/◌, ◌%◌, ltb}
+use Rattle.std.specs.Prelude.{List, [], ◌∷◌, ◌++◌, ℕ}
+use Rattle.definitions.specs.Decimal.{decimal}
 use Rattle.recordings.specs.Placed.{Placed, refused_at, done}
 use Rattle.recordings.specs.Report.{Report}
-
--- the decimal digits of a number, in ASCII, without leading zeros; it has at most so many
-abbrev pub digits_up_to : (most : ℕ) → ℕ → List ℕ
-digits_up_to zero n = []
-digits_up_to (suc most) n = cond (ltb n 10) ((48 + n) ∷ []) (digits_up_to most (n / 10) ++ ((48 + n % 10) ∷ []))
-
--- every number of 64 bits has at most 20 digits
-unfoldable pub decimal : ℕ → List ℕ
-decimal n = digits_up_to 20 n
 
 -- a label, a number and a line feed
 unfoldable pub line : List ℕ → ℕ → List ℕ

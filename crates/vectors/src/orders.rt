@@ -8,11 +8,11 @@ use std::io::Result;
 const LINE: usize = 10;
 
 // table(j), with what stands before it in its line: the place in the row of the core's d(j).
-fn print_entry<const N: usize>(rt: &impl Print, mode: u64, j: usize) -> Result<()>
+fn print_entry<const N: usize>(rt: &impl Print, mode: u64, sheet: &[u16], j: usize) -> Result<()>
     requires { N ≤ ROOM }
 {
     let mut row = [0u8; ROOM];
-    level_three::amrwb_order_to_row(mode, &core_of::<N>(Some(j)), &mut row);
+    level_three::amrwb_order_to_row(mode, sheet, &core_of::<N>(Some(j)), &mut row);
     let before = if j % LINE == 0 { '\n' } else { ' ' };
     if let Some(place) = row.iter().position(|o| *o != 0) {
         print!(rt; "{before}{place}")?;
@@ -20,15 +20,27 @@ fn print_entry<const N: usize>(rt: &impl Print, mode: u64, j: usize) -> Result<(
     Ok(())
 }
 
-// The table of a mode whose core has so many bits, in N octets.
+// The numbers of the table of a mode whose core has so many bits, in N octets.
+pub fn print_numbers<const N: usize>(
+    rt: &impl Print,
+    mode: u64,
+    sheet: &[u16],
+    bits: usize,
+) -> Result<()>
+    requires { N ≤ ROOM }
+{
+    for j in 0..bits {
+        print_entry::<N>(rt, mode, sheet, j)?;
+    }
+    println!(rt; "")
+}
+
+// Modes 0 to 4 need no sheet.
 fn print_table<const N: usize>(rt: &impl Print, table: u64, mode: u64, bits: usize) -> Result<()>
     requires { N ≤ ROOM }
 {
     print!(rt; "table B.{table}")?;
-    for j in 0..bits {
-        print_entry::<N>(rt, mode, j)?;
-    }
-    println!(rt; "")
+    print_numbers::<N>(rt, mode, &[], bits)
 }
 
 pub fn print_tables(rt: &impl Print) -> Result<()> {

@@ -1,0 +1,7 @@
+mod NumberLaws
+mod FieldLaws
+mod HeadLaws
+mod LineLaws
+mod TestLaws
+mod WriteLaws
+mod CallLaws
