@@ -56,6 +56,8 @@ static uint64_t refusal;
 static uint64_t n[4];
 static const uint8_t *in = (const uint8_t *)"";
 static size_t in_len;
+static const uint8_t *second = (const uint8_t *)"";
+static size_t second_len;
 static uint8_t *out;
 static size_t out_len;
 static const uint16_t *sheet;
@@ -75,6 +77,7 @@ static size_t flow_lens[3];
 RUN(validate, n[0], in, in_len)
 RUN(convert, n[0], n[1], n[2], in, in_len, out, out_len)
 RUN(convert_length, n[0], n[1], n[2], in, in_len)
+RUN(merge, n[0], in, in_len, second, second_len, out, out_len)
 RUN(read_frame, n[0], in, in_len, out, out_len)
 RUN(build_if1, n[0], n[1], n[2], n[3], in, in_len, out, out_len)
 RUN(build_if2, n[0], n[1], in, in_len, out, out_len)
@@ -116,15 +119,16 @@ typedef struct {
     { "amrwb_" #name, (function)amrwb_##name, run_##name, refusals, words, link, sizeof(answer), 0, 0 }
 
 enum {
-    VALIDATE, CONVERT, CONVERT_LENGTH, READ_FRAME, BUILD_IF1, BUILD_IF2, BUILD_STORED, CLASS, ORDER_TO_CORE, ORDER_TO_ROW, SHEET_READ,
-    VIEW_OPEN, VIEW_NEXT, REPORT, CONSOLES_FRESH, CONSOLES_ADD, CONSOLES_SLOT, LINK_FRESH, LINK_ASSIGN, LINK_RELEASE, LINK_RATE, LINK_UP,
-    LINK_DOWN, CALLS
+    VALIDATE, CONVERT, CONVERT_LENGTH, MERGE, READ_FRAME, BUILD_IF1, BUILD_IF2, BUILD_STORED, CLASS, ORDER_TO_CORE, ORDER_TO_ROW,
+    SHEET_READ, VIEW_OPEN, VIEW_NEXT, REPORT, CONSOLES_FRESH, CONSOLES_ADD, CONSOLES_SLOT, LINK_FRESH, LINK_ASSIGN, LINK_RELEASE,
+    LINK_RATE, LINK_UP, LINK_DOWN, CALLS
 };
 
 static call calls[CALLS] = {
     CALL(validate, R(0) | IN_FRAME | R(8) | R(9) | R(11), 4, 0, amrwb_answer),
     CALL(convert, R(0) | IN_FRAME | R(8) | R(9) | R(10) | R(11), 8, 0, amrwb_answer),
     CALL(convert_length, R(0) | IN_FRAME | R(8) | R(9) | R(11), 6, 0, amrwb_answer),
+    CALL(merge, R(0) | IN_FRAME | R(8) | R(9) | R(10) | R(11), 8, 0, amrwb_joined),
     CALL(read_frame, R(0) | R(1) | IN_FRAME | R(4) | R(10) | R(11), 6, 0, amrwb_frame),
     CALL(build_if1, BUILT, 9, 0, amrwb_answer),
     CALL(build_if2, BUILT, 7, 0, amrwb_answer),
@@ -248,8 +252,32 @@ static size_t make_frame(uint64_t format, uint64_t type, uint64_t quality, uint8
     return a.octets;
 }
 
-/* Validated, converted to each format, with a buffer of so many octets, viewed to its end or a refusal, and reported. */
+/* Merged with a short recording that begins with gaps, as the first of the two and as the second. */
+static void merges(uint64_t format, const uint8_t *rec, size_t len) {
+    static const uint64_t short_types[] = {14, 15, 9, 8};
+    static uint8_t other_rec[HEADER_OCTETS + LENGTH(short_types) * FRAME_OCTETS];
+    size_t other_len = format == 3 ? HEADER_OCTETS : 0;
+    memcpy(other_rec, HEADER, other_len);
+    for (size_t i = 0; i < LENGTH(short_types); i++)
+        other_len += make_frame(format, short_types[i], 1, other_rec + other_len);
+    n[0] = format;
+    in = rec;
+    in_len = len;
+    second = other_rec;
+    second_len = other_len;
+    measure(MERGE);
+    in = other_rec;
+    in_len = other_len;
+    second = rec;
+    second_len = len;
+    measure(MERGE);
+}
+
+/* Merged, validated, converted to each format, with a buffer of so many octets, viewed to its end or a refusal, and reported. */
 static void recording(uint64_t format, const uint8_t *rec, size_t len, size_t room) {
+    out = other;
+    out_len = room;
+    merges(format, rec, len);
     in = rec;
     in_len = len;
     n[0] = format;
@@ -257,8 +285,6 @@ static void recording(uint64_t format, const uint8_t *rec, size_t len, size_t ro
     measure(VIEW_OPEN);
     if (format == 3)
         measure(REPORT);
-    out = other;
-    out_len = room;
     n[2] = 2;
     for (n[1] = 1; n[1] <= 3; n[1]++) {
         measure(CONVERT);
@@ -347,6 +373,20 @@ static void limits(void) {
     recording(3, big, 65537, MOST_OCTETS);
     memset(big, 0, HEADER_OCTETS);
     recording(2, big, MOST_OCTETS / 18 * 18, 0);
+    /* a recording that begins with a gap, which another fills: both are short enough, and the merged one is not */
+    static const uint8_t filling[18];
+    big[0] = 0xF8;
+    in = big;
+    in_len = 1 + MOST_OCTETS / 18 * 18;
+    second = filling;
+    second_len = sizeof filling;
+    n[0] = 2;
+    measure(MERGE);
+    if (refusal != 9) {
+        printf("a merge too long: refusal %d\n", (int)refusal);
+        exit(1);
+    }
+    big[0] = 0;
     for (uint64_t format = 0; format <= 4; format++)
         for (n[1] = 0; n[1] <= 4; n[1]++)
             for (n[2] = 0; n[2] <= 9; n[2]++) {

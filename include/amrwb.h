@@ -1,10 +1,11 @@
-/* The AMR-WB voice adapter's C interface: whole recordings, one frame, the reception class, the codec's bit order with its sheets, a viewer, the
- * report, eight consoles that share one adapter, and the link to a radio network. Three static libraries have it, of which a host links one:
- * level one has the calls for recordings and for one frame, with formats 1 and 2; level two has these with formats 1 to 3, and every other call
- * but the link's; level three has all. They need no C library but for memcpy and memset.
+/* The AMR-WB voice adapter's C interface: whole recordings, two of them merged, one frame, the reception class, the codec's bit order with
+ * its sheets, a viewer, the report, eight consoles that share one adapter, and the link to a radio network. Three static libraries have it, of
+ * which a host links one: level one has the calls for recordings and for one frame, with formats 1 and 2; level two has these with formats 1 to
+ * 3, and every other call but the link's; level three has all. They need no C library but for memcpy and memset.
  *
  * Octets are lent as a pointer and a length, and so are numbers, which the length counts; a length of 0 may come with any pointer that is not
- * null. The lent buffers of one call must not overlap. No call keeps a pointer, uses the heap or fails in another way than by its answer.
+ * null. The lent buffers of one call must not overlap, but for the two recordings that amrwb_merge reads. No call keeps a pointer, uses the heap
+ * or fails in another way than by its answer.
  *
  * A format is 1 IF1, 2 IF2 or 3 stored (format 3 is refusal 11 in level one). A recording is its frames joined, none or more, at most
  * 16,777,215 octets; a stored one begins with the nine octets "#!AMR-WB\n", which count too.
@@ -20,12 +21,13 @@
  *   23 text that has not a sheet's form                         24 a number missing from a sheet
  *   27 a console already has 100 frames waiting
  * Where several apply, the one that comes first in this order is given: 11, 27, 14, 15, 9 for what is read, 8, the first refused frame by 1 to
- * 7, 12, 23, 24, 13, 16, 17, 6 for the mode of a SID frame that the link makes, 9 for what would be written, 10. 1 and 4 come in a call for one
- * frame only, 8 and 9 in a call for a recording only, 12 in amrwb_order_to_core and amrwb_order_to_row only, 23 in amrwb_sheet_read only, 24 in
- * these three only, 13 to 17 in the link's only, 27 in the consoles' only. At 2 to 7 in a recording, frame counts its frames from 0, and octet
- * is the place of that frame's first octet, from 0 at the recording's start, header included; else both are 0. At a refusal every other field is
- * 0, but for offset and number of amrwb_view_next, consoles and link, which stay as given, and no lent octet or number is changed. Otherwise
- * octets and numbers of a buffer beyond the written ones stay.
+ * 7, 12, 23, 24, 13, 16, 17, 6 for the mode of a SID frame that the link makes, 9 for what would be written, 10; of two recordings the first
+ * is judged whole by 9, 8 and its frames, and then the second. 1 and 4 come in a call for one frame only, 8 and 9 in a call for recordings only,
+ * 12 in amrwb_order_to_core and amrwb_order_to_row only, 23 in amrwb_sheet_read only, 24 in these three only, 13 to 17 in the link's only, 27 in
+ * the consoles' only. At 2 to 7 in a recording, frame counts its frames from 0, and octet is the place of that frame's first octet, from 0 at the
+ * recording's start, header included; else both are 0. At a refusal every other field is 0, but recording of amrwb_merge says which is refused,
+ * and offset and number of amrwb_view_next, consoles and link stay as given; no lent octet or number is changed. Otherwise octets and numbers of
+ * a buffer beyond the written ones stay.
  *
  * A frame type is 0 to 9, 14 or 15; quality is the FQI (0 bad, 1 good); indication and request are modes, 0 to 8. A core is packed:
  * d(0) is the top bit of its first octet, and filling bits are 0. Type 0 to 9 has 17, 23, 32, 36, 40, 46, 50, 58, 60, 5 octets
@@ -45,6 +47,13 @@ typedef struct {
     uint64_t frames; /* frames read; 0 in a call for one frame */
     uint64_t octets; /* octets written */
 } amrwb_answer;
+
+typedef struct {
+    uint64_t refusal, frame, octet;
+    uint64_t recording; /* 1 where the second recording is refused, else 0 */
+    uint64_t frames;    /* of the recording that is made */
+    uint64_t octets;    /* octets written */
+} amrwb_joined;
 
 typedef struct {
     uint64_t refusal, frame, octet;
@@ -105,6 +114,16 @@ amrwb_answer amrwb_convert(uint64_t from, uint64_t to, uint64_t request, const u
 
 /* As amrwb_convert, but writes nothing: frames read, and the octets that the conversion needs of out. Never 10. */
 amrwb_answer amrwb_convert_length(uint64_t from, uint64_t to, uint64_t request, const uint8_t *rec, size_t len);
+
+/* Reads the whole recordings a and b of a format, which two recorders made of the same talk, and then writes a third of that format to out: number
+ * by number a's frame, but b's where a's has type 14 or 15, at either quality, or where a has ended, and b still has a frame there, whatever it
+ * is. So it has as many frames as the longer of the two. Frames are matched by their number alone: both recordings must begin at the same time. A
+ * frame of a of type 0 to 9 is kept, at either quality. Frames are copied octet for octet: in IF1 they keep indication, request and CRC. In storage
+ * format there is one header. frames of the third, and octets written. 11 for the format; a by 9, 8, its first refused frame by 2, 3, 5, 6, 7; b
+ * by the same; 9 for what would be written; 10. Where b is refused recording is 1, else 0; frame and octet are a place in the one that is
+ * refused. At 11, at 9 for what would be written and at 10 all three are 0. There is no call for the octets that out must hold: a_len + b_len are
+ * always enough, and in storage format nine fewer. a and b may overlap or be the same octets; out must overlap neither. */
+amrwb_joined amrwb_merge(uint64_t format, const uint8_t *a, size_t a_len, const uint8_t *b, size_t b_len, uint8_t *out, size_t out_len);
 
 /* Level one: one frame. */
 

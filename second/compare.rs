@@ -5,6 +5,7 @@
 mod compare_consoles;
 mod compare_frames;
 mod compare_links;
+mod compare_merges;
 mod compare_order;
 mod compare_recordings;
 mod compare_reports;
@@ -14,12 +15,14 @@ mod consoles;
 mod frame;
 mod library;
 mod link;
+mod merge;
 mod order;
 mod printed;
 mod printed_subflows;
 mod random;
 mod random_frames;
 mod random_links;
+mod random_merges;
 mod random_recordings;
 mod random_sheets;
 mod reception;
@@ -31,6 +34,7 @@ mod view;
 
 use compare_consoles::ConsoleLists;
 use compare_links::Links;
+use compare_merges::Merges;
 use compare_views::Views;
 use order::Order;
 use random::Random;
@@ -66,6 +70,7 @@ struct Comparison {
     g: Random,
     tally: Tally,
     order: Order,
+    merges: Merges,
     views: Views,
     consoles: ConsoleLists,
     links: Links,
@@ -73,14 +78,21 @@ struct Comparison {
 
 impl Comparison {
     fn new(seed: u64) -> Comparison {
-        let (tally, views) = (Tally::default(), Views::default());
-        Comparison { g: Random::new(seed), tally, order: Order::new(), views, consoles: ConsoleLists::new(), links: Links::new() }
+        Comparison {
+            g: Random::new(seed),
+            tally: Tally::default(),
+            order: Order::new(),
+            merges: Merges::default(),
+            views: Views::default(),
+            consoles: ConsoleLists::new(),
+            links: Links::new(),
+        }
     }
 
     /// One input by chance, in every level that has its call; true where all agree.
     fn compare(&mut self) -> bool {
         let (g, tally) = (&mut self.g, &mut self.tally);
-        match g.below(40) {
+        match g.below(42) {
             0..=2 => compare_frames::compare_read(g, tally),
             3..=5 => compare_frames::compare_build(g, tally),
             6 => compare_frames::compare_class(g, tally),
@@ -90,6 +102,7 @@ impl Comparison {
             15 => self.views.compare(g, tally),
             16 => compare_reports::compare(g, tally),
             17..=19 => self.consoles.compare(g, tally),
+            20..=21 => self.merges.compare(g, tally),
             _ => self.links.compare(g, tally),
         }
     }
@@ -103,12 +116,13 @@ impl Comparison {
             && compare_order::compare_encoder(tally, &self.order)
             && compare_reports::compare_limits(tally)
             && compare_recordings::compare_limits(tally)
+            && compare_merges::compare_fixed(tally)
             && self.views.compare_limits(tally)
     }
 
     /// Prints what came; false where the answers are not all the possible ones, or some kind of input never came.
     fn show(&self) -> bool {
-        self.tally.show() & self.views.show() & self.consoles.show() & self.links.show() & self.g.show()
+        self.tally.show() & self.merges.show() & self.views.show() & self.consoles.show() & self.links.show() & self.g.show()
     }
 }
 

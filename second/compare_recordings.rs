@@ -8,7 +8,7 @@ use crate::tally::Tally;
 
 /// The second program's answer at each level: level one's is another where format 3 is among the arguments.
 pub struct Answers<T> {
-    all: T,
+    pub all: T,
     one: Option<T>,
 }
 

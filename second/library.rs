@@ -29,6 +29,7 @@ macro_rules! answer {
 }
 
 answer!(Answer[5] { refusal, frame, octet, frames, octets });
+answer!(JoinedAnswer[6] { refusal, frame, octet, recording, frames, octets });
 answer!(FrameAnswer[8] { refusal, frame, octet, ftype, quality, indication, request, core_octets });
 answer!(ClassAnswer[4] { refusal, frame, octet, class });
 answer!(SheetAnswer[5] { refusal, frame, octet, mode, numbers });
@@ -88,6 +89,7 @@ calls!(OneCalls, ONE_CALLS: ["one_amrwb_", "two_amrwb_", "three_amrwb_"], {
     validate(u64, *const u8, usize) -> Answer;
     convert(u64, u64, u64, *const u8, usize, *mut u8, usize) -> Answer;
     convert_length(u64, u64, u64, *const u8, usize) -> Answer;
+    merge(u64, *const u8, usize, *const u8, usize, *mut u8, usize) -> JoinedAnswer;
     read_frame(u64, *const u8, usize, *mut u8, usize) -> FrameAnswer;
     build_if1(u64, u64, u64, u64, *const u8, usize, *mut u8, usize) -> Answer;
     build_if2(u64, u64, *const u8, usize, *mut u8, usize) -> Answer;

@@ -6,7 +6,7 @@ use std::collections::BTreeMap;
 pub const TYPES: [u64; 12] = [0, 1, 2, 3, 4, 5, 6, 7, 8, 9, 14, 15];
 
 /// The kinds of octets, and of lists of calls, that must come.
-const KINDS: [&str; 57] = [
+const KINDS: [&str; 64] = [
     "right frame",
     "frame with one bit changed",
     "frame cut",
@@ -27,6 +27,13 @@ const KINDS: [&str; 57] = [
     "recording lengthened",
     "recording of random octets",
     "wrong header",
+    "recording merged with itself",
+    "first recording damaged",
+    "second recording damaged",
+    "both recordings damaged",
+    "shorter second recording",
+    "second recording of equal length",
+    "longer second recording",
     "core or row of another length",
     "sub-flow of another length",
     "right sheet",

@@ -2,7 +2,7 @@
 use crate::frame;
 use crate::random::{Random, TYPES};
 use crate::random_frames::{change_a_bit, right_frame, wrong_frame};
-use crate::recording::HEADER;
+use crate::recording::{self, HEADER};
 
 /// A format to lay octets out in for a call with this format, which may be out of its range: mostly the same.
 pub fn format_like(g: &mut Random, format: u64) -> u64 {
@@ -50,7 +50,7 @@ fn some_wrong_frames(g: &mut Random, format: u64, rec: &mut Vec<u8>) {
 }
 
 /// Changes a bit or the header of a recording, cuts or lengthens it.
-fn damage(g: &mut Random, format: u64, rec: &mut Vec<u8>) {
+pub fn damage(g: &mut Random, format: u64, rec: &mut Vec<u8>) {
     match g.below(8) {
         0..=1 => {
             g.kind("recording with one bit changed");
@@ -78,6 +78,11 @@ pub fn change_the_header(g: &mut Random, rec: &mut Vec<u8>) {
         1 => drop(rec.drain(..HEADER.len())),
         _ => change_a_bit(g, &mut rec[..HEADER.len()]),
     }
+}
+
+/// The octets of a recording whose frames have these octets.
+pub fn recording_of(format: u64, frames: &[u8]) -> Vec<u8> {
+    [recording::header(format), frames].concat()
 }
 
 /// A right recording of one format that takes exactly so many octets in another: frames of one type, and at its end frames of one octet.

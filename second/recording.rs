@@ -22,7 +22,7 @@ pub fn length_in(limit: usize, rec: &[u8]) -> Result<(), Refusal> {
     if rec.len() > limit { Err(outside(9)) } else { Ok(()) }
 }
 
-fn header(format: u64) -> &'static [u8] {
+pub fn header(format: u64) -> &'static [u8] {
     if format == 3 { HEADER } else { &[] }
 }
 

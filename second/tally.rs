@@ -20,10 +20,11 @@ impl Refusals {
 }
 
 /// Every call, the first level that has it, and the refusals that it can give.
-const CALLS: [(&str, usize, &[usize]); 23] = [
+const CALLS: [(&str, usize, &[usize]); 24] = [
     ("validate", 1, &[0, 2, 3, 5, 6, 7, 8, 9, 11]),
     ("convert", 1, &[0, 2, 3, 5, 6, 7, 8, 9, 10, 11]),
     ("convert_length", 1, &[0, 2, 3, 5, 6, 7, 8, 9, 11]),
+    ("merge", 1, &[0, 2, 3, 5, 6, 7, 8, 9, 10, 11]),
     ("read_frame", 1, &[0, 1, 2, 3, 4, 5, 6, 7, 10, 11]),
     ("build_if1", 1, &[0, 2, 5, 6, 10, 11]),
     ("build_if2", 1, &[0, 2, 5, 6, 10, 11]),

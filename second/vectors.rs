@@ -1,11 +1,12 @@
-//! Prints document 01's bench cases that are not marked P, calls of document 02's consoles and sheets, and the public vectors: the frames of TS
-//! 26.201's tables 5, 6, A.1a, A.2 and A.3 with every core bit's place, the sub-flows of TS 26.202's table 6-2, and the ordering tables B.1 to B.5.
-//! What the papers print is taken from their print; where the second program has it otherwise, this program fails.
+//! Prints document 01's bench cases that are not marked P, calls of document 02's consoles, sheets and merges, and the public vectors: the frames of
+//! TS 26.201's tables 5, 6, A.1a, A.2 and A.3 with every core bit's place, the sub-flows of TS 26.202's table 6-2, and the ordering tables B.1 to
+//! B.5. What the papers print is taken from their print; where the second program has it otherwise, this program fails.
 mod consoles;
 mod frame;
 // no vector releases a set, only validates a recording, or orders a row
 #[allow(dead_code)]
 mod link;
+mod merge;
 #[allow(dead_code)]
 mod order;
 mod printed;
@@ -19,6 +20,7 @@ use consoles::Consoles;
 use frame::{Frame, ALL_FORMATS};
 use order::Order;
 use printed_frames::Table;
+use recording::HEADER;
 
 const FRAMES: &str = include_str!("../tests/tables/ts-26.201-frames.txt");
 const ORDER: &str = include_str!("../tests/tables/ts-26.201-b.txt");
@@ -274,6 +276,68 @@ fn sheets() {
     }
 }
 
+/// In storage format: SID; SPEECH_LOST; a bad SID frame; NO_DATA; SPEECH_LOST.
+const SHORTER: &[u8] = b"#!AMR-WB\n\
+    \x4C\x11\x11\x11\x11\x13\
+    \x70\
+    \x48\x22\x22\x22\x22\x12\
+    \x7C\
+    \x70";
+
+/// SID; speech of type 0; SID; a bad SID frame; NO_DATA marked bad; SID; SPEECH_LOST.
+const LONGER: &[u8] = b"#!AMR-WB\n\
+    \x4C\x33\x33\x33\x33\x10\
+    \x04\x77\x77\x77\x77\x77\x77\x77\x77\x77\x77\x77\x77\x77\x77\x77\x77\x70\
+    \x4C\x44\x44\x44\x44\x18\
+    \x48\x55\x55\x55\x55\x03\
+    \x78\
+    \x4C\x66\x66\x66\x66\x11\
+    \x70";
+
+/// In IF1: SID, request 2; NO_DATA; a bad SID frame, request 6.
+const IF1_SHORTER: &[u8] = b"\x98\x02\xA5\x00\x00\x00\x00\x13\
+    \xF8\
+    \x90\x06\xA5\x00\x00\x00\x00\x13";
+
+/// SID, request 7; speech of type 0, indication 8, request 3; SID, requests 1 and 8.
+const IF1_LONGER: &[u8] = b"\x98\x07\xA5\x00\x00\x00\x00\x13\
+    \x08\x83\x00\x00\x00\x00\x00\x00\x00\x00\x00\x00\x00\x00\x00\x00\x00\x00\x00\x00\
+    \x98\x01\xA5\x00\x00\x00\x00\x13\
+    \x98\x08\xA5\x00\x00\x00\x00\x13";
+
+/// A spare bit 1 in the second frame.
+const SPARE_BIT: &[u8] = b"#!AMR-WB\n\x7C\x7D";
+
+/// Type 10 in the second frame.
+const RESERVED_TYPE: &[u8] = b"#!AMR-WB\n\x7C\x50";
+
+fn print_merge(format: u64, first: &[u8], second: &[u8], room: usize) {
+    println!("merge format {format} first{}", hex(first));
+    println!("merge format {format} second{}", hex(second));
+    let done = merge::merged(ALL_FORMATS, format, first, second);
+    let ([refusal, frame, octet, recording, frames, _], octets) = merge::answer(&done, room);
+    print!("merge format {format} room {room} refusal {refusal} recording {recording} frame {frame} octet {octet} frames {frames}");
+    println!(" octets{}", hex(octets));
+}
+
+/// Either as the first; a recording with itself; IF1 with its fields; IF2 into a buffer that just fits; recordings without frames. Refused: the
+/// second's frame; the first's, whatever the second's is; the second's header; a buffer that is one octet short; formats out of their range.
+fn merges() {
+    print_merge(3, SHORTER, LONGER, 64);
+    print_merge(3, LONGER, SHORTER, 64);
+    print_merge(3, SHORTER, SHORTER, 64);
+    print_merge(1, IF1_SHORTER, IF1_LONGER, 64);
+    print_merge(2, b"\xF8", b"\x98\0\0\0\0\x98", 6);
+    print_merge(3, HEADER, LONGER, 64);
+    print_merge(3, HEADER, HEADER, 64);
+    print_merge(3, SHORTER, RESERVED_TYPE, 64);
+    print_merge(3, SPARE_BIT, RESERVED_TYPE, 64);
+    print_merge(3, SHORTER, IF1_LONGER, 64);
+    print_merge(3, SHORTER, LONGER, 52);
+    print_merge(4, SPARE_BIT, RESERVED_TYPE, 64);
+    print_merge(259, SHORTER, LONGER, 64);
+}
+
 fn main() {
     bench();
     console_calls();
@@ -285,4 +349,5 @@ fn main() {
     table_6_2();
     tables_b();
     sheets();
+    merges();
 }

@@ -1,4 +1,4 @@
-//! The adapter on the command line: converts, validates, reports on, lists and round-trips AMR-WB recordings, and checks sheets. The
+//! The adapter on the command line: converts, merges, validates, reports on, lists and round-trips AMR-WB recordings, and checks sheets. The
 //! library (level three) decides everything about frames and sheets; here are arguments, files and messages only.
 //!
 //! The modules lie in adapter/, and are named by path because this file is the program's root.
@@ -18,6 +18,8 @@ mod help;
 mod inputs;
 #[path = "adapter/library.rs"]
 mod library;
+#[path = "adapter/merge.rs"]
+mod merge;
 #[path = "adapter/output.rs"]
 mod output;
 #[path = "adapter/refusal.rs"]
@@ -30,6 +32,8 @@ mod round_trip;
 mod sheet;
 #[path = "adapter/sheet_fault.rs"]
 mod sheet_fault;
+#[path = "adapter/target.rs"]
+mod target;
 #[path = "adapter/trouble.rs"]
 mod trouble;
 #[path = "adapter/validate.rs"]
@@ -40,7 +44,7 @@ use std::ffi::OsString;
 use std::process::ExitCode;
 use trouble::{say, Status, Trouble};
 
-const COMMANDS: [Command; 6] = [
+const COMMANDS: [Command; 7] = [
     Command {
         name: "convert",
         action: None,
@@ -48,6 +52,7 @@ const COMMANDS: [Command; 6] = [
         help: help::CONVERT,
         run: convert::convert,
     },
+    Command { name: "merge", action: None, options: &["--from", "--output"], help: help::MERGE, run: merge::merge },
     Command { name: "validate", action: None, options: &["--from"], help: help::VALIDATE, run: validate::validate },
     Command { name: "report", action: None, options: &["--long", "--from"], help: help::REPORT, run: report::report },
     Command { name: "frames", action: None, options: &["--from"], help: help::FRAMES, run: frames::frames },

@@ -1,21 +1,16 @@
 //! `adapter convert`. Wrong use is told before anything is written.
 use crate::arguments::Options;
-use crate::files::{identity, shown, Identity, Input};
+use crate::files::{identities, identity, shown, Identity, Input};
 use crate::format::Format;
 use crate::inputs::{open, over};
 use crate::library;
-use crate::output::{write_whole, StandardOutput};
+use crate::output::StandardOutput;
+use crate::target::Target;
 use crate::trouble::{Status, Trouble};
-use std::collections::{HashMap, HashSet};
-use std::ffi::OsStr;
+use std::collections::HashMap;
 use std::fs;
-use std::io::{self, ErrorKind, IsTerminal, Write};
+use std::io::ErrorKind;
 use std::path::{Path, PathBuf};
-
-enum Target {
-    Standard,
-    File(PathBuf),
-}
 
 pub fn convert(options: &Options) -> Status {
     let to = match prepare(options) {
@@ -28,10 +23,7 @@ pub fn convert(options: &Options) -> Status {
 fn convert_one(options: &Options, to: Format, input: &Input, out: &mut StandardOutput) -> Result<(), Trouble> {
     let (recording, from) = open(input, options.from)?;
     let octets = library::convert(from, to, options.request, &recording).map_err(|r| Trouble::refused(r, &recording))?;
-    match target(options, to, input)? {
-        Target::Standard => Ok(out.write_all(&octets)?),
-        Target::File(path) => write_whole(&path, &octets).map_err(|e| Trouble::Failed(shown(path.as_os_str()), e)),
-    }
+    target(options, to, input)?.write(&octets, out)
 }
 
 /// The format to write. Every target is known to be allowed then.
@@ -57,25 +49,17 @@ fn check_folder(folder: &Path) -> Result<(), Trouble> {
     }
 }
 
-/// No two inputs may have one output, and no output may be an input, under whatever name or link.
+/// No two inputs may have one output, and no output may be an input.
 fn check_targets(options: &Options, to: Format) -> Result<(), Trouble> {
-    let inputs: HashSet<Identity> = options.inputs.iter().filter_map(Input::identity).collect();
+    let inputs = identities(&options.inputs);
     let mut paths: HashMap<PathBuf, &Input> = HashMap::new();
     let mut files: HashMap<Identity, &Input> = HashMap::new();
     for input in &options.inputs {
-        let path = match target(options, to, input)? {
-            Target::File(path) => path,
-            Target::Standard if io::stdout().is_terminal() => {
-                return Err(Trouble::Misused("octets are not written to a terminal; name an --output file".to_string()));
-            }
-            Target::Standard => continue,
-        };
+        let target = target(options, to, input)?;
+        target.check(&inputs)?;
+        let Target::File(path) = target else { continue };
         let name = shown(path.as_os_str());
-        let file = identity(&path);
-        if file.is_some_and(|file| inputs.contains(&file)) {
-            return Err(Trouble::Misused(format!("{name} is an input, which is never written")));
-        }
-        let other = file.and_then(|file| files.insert(file, input)).or(paths.insert(path, input));
+        let other = identity(&path).and_then(|file| files.insert(file, input)).or(paths.insert(path, input));
         if let Some(other) = other {
             return Err(Trouble::Misused(format!("{} and {} would both be written to {name}", other.name(), input.name())));
         }
@@ -85,12 +69,7 @@ fn check_targets(options: &Options, to: Format) -> Result<(), Trouble> {
 
 /// Where an input's conversion goes. In a folder it has the input's name with the format's extension.
 fn target(options: &Options, to: Format, input: &Input) -> Result<Target, Trouble> {
-    let Some(folder) = &options.into else {
-        return Ok(match &options.output {
-            Some(path) if path.as_os_str() != OsStr::new("-") => Target::File(path.clone()),
-            _ => Target::Standard,
-        });
-    };
+    let Some(folder) = &options.into else { return Ok(Target::named(options.output.as_deref())) };
     let name = match input {
         Input::File(path) => path.file_name(),
         Input::Standard => None,

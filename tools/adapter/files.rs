@@ -1,5 +1,6 @@
 //! Inputs: files and standard input, their names, and which file they are.
 use crate::library::LIMIT;
+use std::collections::HashSet;
 use std::ffi::OsStr;
 use std::fmt::Write;
 use std::fs::{self, File, Metadata};
@@ -49,6 +50,10 @@ impl Input {
 /// Standard input or output as a file: Rust's own has no metadata, and writes by lines.
 pub fn stream(standard: &impl AsFd) -> io::Result<File> {
     Ok(File::from(standard.as_fd().try_clone_to_owned()?))
+}
+
+pub fn identities(inputs: &[Input]) -> HashSet<Identity> {
+    inputs.iter().filter_map(Input::identity).collect()
 }
 
 pub fn identity(path: &Path) -> Option<Identity> {

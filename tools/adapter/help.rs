@@ -4,6 +4,7 @@ pub const VERSION: &str = "adapter, the AMR-WB voice adapter's program over leve
 
 pub const USAGE: &str = "\
 usage: adapter convert|validate|report|frames|round-trip [OPTION..] [INPUT..]
+       adapter merge [OPTION..] FIRST SECOND
        adapter sheet check [INPUT..]
        adapter --help, adapter COMMAND --help, adapter --version
 ";
@@ -14,6 +15,7 @@ usage: adapter COMMAND [OPTION..] [INPUT..]
 Works on recordings of AMR-WB frames, of at most 16777215 octets, and on ordering tables that a user supplies (sheets).
 
   convert      writes a recording in another format
+  merge        writes one recording of two of the same talk, where the second fills the gaps of the first
   validate     says whether a recording is valid
   report       counts a recording's frames by class
   frames       lists a recording's frames
@@ -29,13 +31,14 @@ not given, a file that begins with the header \"#!AMR-WB\" and a line feed is ta
 IF2 recording too. Every other file needs its format named: nothing in it tells IF1 from IF2, and file names are not
 looked at.
 
-Inputs are files; - or no input is standard input. An input is never written. Options and inputs may be mixed; behind --
-there are inputs only. In what is printed, an octet of a name that is no UTF-8 or a control character is \\xNN.
+Inputs are files; - or no input is standard input. merge takes two, the others any number. An input is never written.
+Options and inputs may be mixed; behind -- there are inputs only. In what is printed, an octet of a name that is no UTF-8
+or a control character is \\xNN.
 
 Results go to standard output; refusals and other messages to standard error. A refusal has its number and meaning and,
 where it concerns a frame, the frame, counted from 0, its first octet, counted from 0 with the header, and its time in
-the recording, at 20 ms a frame. With several inputs, those with trouble do not stop the others and are listed again at
-the end; on a terminal a line shows how far it is.
+the recording, at 20 ms a frame. With several inputs, those with trouble do not stop the others, but for merge, and are
+listed again at the end; on a terminal a line shows how far it is.
 
 Exit status, the highest of all inputs':
   0  done
@@ -61,6 +64,32 @@ a killed program leaves that name behind. A file that is there already is replac
 it is write-protected; a symbolic link stays, and the file that it leads to is replaced. A device or a pipe is written
 directly. An output that is an input, under any name, and two inputs with one output are wrong use, told before anything
 is written. A refused input leaves no output.
+
+Exit status: 0 done, 1 refused, 2 wrong use, 3 input or output failed.
+";
+
+pub const MERGE: &str = "\
+usage: adapter merge [--from FORMAT] [--output FILE] FIRST SECOND
+
+Writes one recording of two of the same talk, in the format that both have: frame by frame the first's, but the second's
+where the first's is lost or empty, or where the first has ended, and the second still has a frame, be it lost or empty
+too. So it lasts as long as the longer. Frames are matched by number: both must begin at the same time. Empty ones are
+also those of silence. A bad frame of the first is kept. Frames are copied: in IF1 they keep mode indication, mode
+request and CRC.
+
+  --from FORMAT        the format of both: if1, if2 or stored; not needed where the header of the storage format tells it
+                       of both
+  -o, --output FILE    where to write, as convert does; - or none is standard output, which must be no terminal
+
+FIRST or SECOND may be -, standard input. When the recording is written, standard error says how long it is, and which of
+its frames came from the second, by number and time:
+  OUTPUT: N frames, N octets, M:SS.mmm
+  from SECOND: 27 frames, 9 of them lost or empty:
+    3 to 9, 0:00.060 to 0:00.200
+    40 to 52, 0:00.800 to 0:01.060, 2 of them lost or empty
+    and 3 runs that are all lost or empty
+A refusal names the recording that is refused, or merge itself where the result would be too long, and leaves no output.
+The first is judged before the second.
 
 Exit status: 0 done, 1 refused, 2 wrong use, 3 input or output failed.
 ";

@@ -80,7 +80,7 @@ pub fn over(inputs: &[Input], silent: bool, command: impl Fn(&Input, &mut Standa
 }
 
 /// Standard output, which must be no input: that would be written while it is read.
-fn output_apart(inputs: &[Input]) -> Result<StandardOutput, (String, Trouble)> {
+pub fn output_apart(inputs: &[Input]) -> Result<StandardOutput, (String, Trouble)> {
     let out = output::standard().map_err(|e| (String::new(), Trouble::Output(e)))?;
     let output = out.get_ref().metadata().ok().and_then(files::regular);
     match inputs.iter().find(|input| output.is_some() && input.identity() == output) {

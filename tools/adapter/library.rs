@@ -16,11 +16,25 @@ const LONGEST_SHEET: usize = 477;
 /// The type of a SID frame.
 pub const SID: u64 = 9;
 
+/// The reception classes of lost and of empty frames.
+const LOST: u64 = 6;
+const EMPTY: u64 = 7;
+
 #[repr(C)]
 struct Answer {
     refusal: u64,
     frame: u64,
     octet: u64,
+    frames: u64,
+    octets: u64,
+}
+
+#[repr(C)]
+struct Joined {
+    refusal: u64,
+    frame: u64,
+    octet: u64,
+    recording: u64,
     frames: u64,
     octets: u64,
 }
@@ -81,6 +95,7 @@ extern "C" {
     fn amrwb_validate(format: u64, rec: *const u8, len: usize) -> Answer;
     fn amrwb_convert(from: u64, to: u64, request: u64, rec: *const u8, len: usize, out: *mut u8, out_len: usize) -> Answer;
     fn amrwb_convert_length(from: u64, to: u64, request: u64, rec: *const u8, len: usize) -> Answer;
+    fn amrwb_merge(format: u64, a: *const u8, a_len: usize, b: *const u8, b_len: usize, out: *mut u8, out_len: usize) -> Joined;
     fn amrwb_view_open(format: u64, rec: *const u8, len: usize) -> View;
     fn amrwb_view_next(format: u64, offset: u64, number: u64, rec: *const u8, len: usize, core: *mut u8, core_len: usize) -> View;
     fn amrwb_report(rec: *const u8, len: usize) -> CountsAnswer;
@@ -116,6 +131,17 @@ pub fn convert(from: Format, to: Format, request: u64, recording: &[u8]) -> Resu
     Ok(out)
 }
 
+/// Two recordings merged: frames and octets of the result. A refusal comes with the recording that it concerns, 0 the first, 1 the second; 0
+/// also where it concerns the result.
+pub fn merge(format: Format, a: &[u8], b: &[u8]) -> Result<(u64, Vec<u8>), (usize, Refusal)> {
+    // each frame is one of theirs, so this is enough
+    let mut out = vec![0; a.len() + b.len()];
+    let m = unsafe { amrwb_merge(format as u64, a.as_ptr(), a.len(), b.as_ptr(), b.len(), out.as_mut_ptr(), out.len()) };
+    accepted(m.refusal, m.frame, m.octet).map_err(|refusal| (m.recording as usize, refusal))?;
+    out.truncate(m.octets as usize);
+    Ok((m.frames, out))
+}
+
 /// The counts of a stored recording of at most 65,536 octets.
 pub fn report(recording: &[u8]) -> Result<Counts, Refusal> {
     let a = unsafe { amrwb_report(recording.as_ptr(), recording.len()) };
@@ -141,6 +167,12 @@ pub struct Frame {
     pub indication: u64,
     pub request: u64,
     pub class: u64,
+}
+
+impl Frame {
+    pub fn is_gap(&self) -> bool {
+        self.class == LOST || self.class == EMPTY
+    }
 }
 
 /// The frames of a recording in turn. At a refused frame it stays, so the first refusal must end the walk.

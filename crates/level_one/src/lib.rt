@@ -7,11 +7,14 @@
 ghost use Rattle.std.specs.Prelude.{◌≡◌, ◌&&◌, leb, length};
 ghost use Rattle.definitions.specs.Frames.{if1, if2};
 ghost use Rattle.definitions.specs.Reading.{build_frame};
+ghost use Rattle.joins.specs.Flat.{FlatJoined};
 ghost use Rattle.answers.specs.Flat.{placed_numbers, FlatConversion, FlatOutput, FlatFrame};
-ghost use Rattle.level_one.specs.Formats.{validate_one, convert_one, length_one, read_one};
+ghost use Rattle.level_one.specs.Formats.{validate_one, convert_one, length_one, merge_one, read_one};
+ghost use Rattle.level_one.specs.Claims.{JoinedLentOctets};
 
 use answers::{Answer, FrameAnswer};
 use frame::{Format, Refusal};
+use joins::JoinedAnswer;
 
 // The highest number of a format that level one has. It bounds the number that C hands in, of which the entry makes a `Format`.
 const LAST_FORMAT: u64 = 2;
@@ -50,6 +53,15 @@ pub fn amrwb_convert_length(from: u64, to: u64, request: u64, rec: &[u8]) -> Ans
     converter::convert_length(from, to, request, rec).into()
 }
 
+pub fn amrwb_merge(format: u64, a: &[u8], b: &[u8], out: &mut [u8]) -> JoinedAnswer
+    ensures { FlatJoined (merge_one format a.now b.now (length out.old)) out.old out.new result }
+{
+    if LAST_FORMAT < format {
+        return Refusal::ArgumentRange.into();
+    }
+    joins::merge(format, a, b, out).into()
+}
+
 pub fn amrwb_read_frame(format: u64, octets: &[u8], core: &mut [u8]) -> FrameAnswer
     ensures { FlatFrame (read_one format octets.now (length core.old)) core.old core.new result }
 {
@@ -86,3 +98,9 @@ pub fn amrwb_build_if2(frame_type: u64, quality: u64, core: &[u8], out: &mut [u8
 {
     frame_builder::build(Format::If2, frame_type, quality, 0, 0, core, out).into()
 }
+
+// Does nothing. Its contract: demand 1 at the C interface, of a merge. A refused call leaves every lent octet, and another writes the front of its
+// buffer alone.
+pub fn lent_octets_claim()
+    ensures { JoinedLentOctets }
+{}

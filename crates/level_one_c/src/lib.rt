@@ -5,10 +5,12 @@
 ghost use Rattle.std.specs.Prelude.{◌≡◌, length};
 ghost use Rattle.definitions.specs.Frames.{if1, if2};
 ghost use Rattle.definitions.specs.Reading.{build_frame};
+ghost use Rattle.joins.specs.Flat.{FlatJoined};
 ghost use Rattle.answers.specs.Flat.{placed_numbers, FlatConversion, FlatOutput, FlatFrame};
-ghost use Rattle.level_one.specs.Formats.{validate_one, convert_one, length_one, read_one};
+ghost use Rattle.level_one.specs.Formats.{validate_one, convert_one, length_one, merge_one, read_one};
 
 use answers::{Answer, FrameAnswer};
+use joins::JoinedAnswer;
 
 #[unsafe(no_mangle)]
 pub extern "C" fn amrwb_validate(format: u64, rec: &[u8]) -> Answer
@@ -35,6 +37,13 @@ pub extern "C" fn amrwb_convert_length(from: u64, to: u64, request: u64, rec: &[
     ensures { result ≡ placed_numbers (length_one from to request rec.now) }
 {
     level_one::amrwb_convert_length(from, to, request, rec)
+}
+
+#[unsafe(no_mangle)]
+pub extern "C" fn amrwb_merge(format: u64, a: &[u8], b: &[u8], out: &mut [u8]) -> JoinedAnswer
+    ensures { FlatJoined (merge_one format a.now b.now (length out.old)) out.old out.new result }
+{
+    level_one::amrwb_merge(format, a, b, out)
 }
 
 #[unsafe(no_mangle)]

@@ -13,7 +13,7 @@ use downlink::Answered;
 // Level two's calls, as they are there.
 pub use level_two::{
     amrwb_build_if1, amrwb_build_if2, amrwb_build_stored, amrwb_class, amrwb_consoles_add,
-    amrwb_consoles_fresh, amrwb_consoles_slot, amrwb_convert, amrwb_convert_length,
+    amrwb_consoles_fresh, amrwb_consoles_slot, amrwb_convert, amrwb_convert_length, amrwb_merge,
     amrwb_order_to_core, amrwb_order_to_row, amrwb_read_frame, amrwb_report, amrwb_sheet_read,
     amrwb_validate, amrwb_view_next, amrwb_view_open,
 };

@@ -16,6 +16,8 @@ ghost use Rattle.recordings.specs.Report.{report_call};
 ghost use Rattle.frame.specs.Answers.{number_of};
 ghost use Rattle.order_sheets_spec.specs.Sheets.{sheet_call};
 ghost use Rattle.order_sheets.specs.Flat.{FlatSheet};
+ghost use Rattle.joins_spec.specs.Joining.{merge_call};
+ghost use Rattle.joins.specs.Flat.{FlatJoined};
 ghost use Rattle.consoles_spec.specs.Calls.{fresh_consoles, add, slot, consoles_step};
 ghost use Rattle.consoles.specs.Flat.{consoles_numbers};
 ghost use Rattle.answers.specs.Flat.{placed_numbers, FlatConversion, FlatOutput, FlatFrame};
@@ -29,6 +31,7 @@ use consoles::{ConsolesAnswer, added_answer, served_answer};
 use consoles_spec::Consoles;
 use frame::table::core_octets;
 use frame::{Format, Refusal, SID};
+use joins::JoinedAnswer;
 pub use level_one::{amrwb_build_if1, amrwb_build_if2};
 use order_sheets::SheetAnswer;
 use reception::{Reception, SidClass, SpeechClass};
@@ -178,6 +181,12 @@ pub fn amrwb_convert_length(from: u64, to: u64, request: u64, rec: &[u8]) -> Ans
     ensures { result ≡ placed_numbers (length_call from to request rec.now) }
 {
     converter::convert_length(from, to, request, rec).into()
+}
+
+pub fn amrwb_merge(format: u64, a: &[u8], b: &[u8], out: &mut [u8]) -> JoinedAnswer
+    ensures { FlatJoined (merge_call format a.now b.now (length out.old)) out.old out.new result }
+{
+    joins::merge(format, a, b, out).into()
 }
 
 pub fn amrwb_read_frame(format: u64, octets: &[u8], core: &mut [u8]) -> FrameAnswer

@@ -13,6 +13,8 @@ ghost use Rattle.recordings.specs.Viewer.{open_call, view_call};
 ghost use Rattle.recordings.specs.Report.{report_call};
 ghost use Rattle.order_sheets_spec.specs.Sheets.{sheet_call};
 ghost use Rattle.order_sheets.specs.Flat.{FlatSheet};
+ghost use Rattle.joins_spec.specs.Joining.{merge_call};
+ghost use Rattle.joins.specs.Flat.{FlatJoined};
 ghost use Rattle.consoles_spec.specs.Calls.{fresh_consoles, add, slot, consoles_step};
 ghost use Rattle.consoles.specs.Flat.{consoles_numbers};
 ghost use Rattle.answers.specs.Flat.{placed_numbers, FlatConversion, FlatOutput, FlatFrame};
@@ -21,6 +23,7 @@ ghost use Rattle.level_two.specs.Flat.{class_numbers, open_numbers, FlatView, re
 use answers::{Answer, FrameAnswer};
 use consoles::ConsolesAnswer;
 use consoles_spec::Consoles;
+use joins::JoinedAnswer;
 use level_two::{ClassAnswer, ReportAnswer, ViewAnswer};
 use order_sheets::SheetAnswer;
 
@@ -49,6 +52,13 @@ pub extern "C" fn amrwb_convert_length(from: u64, to: u64, request: u64, rec: &[
     ensures { result ≡ placed_numbers (length_call from to request rec.now) }
 {
     level_two::amrwb_convert_length(from, to, request, rec)
+}
+
+#[unsafe(no_mangle)]
+pub extern "C" fn amrwb_merge(format: u64, a: &[u8], b: &[u8], out: &mut [u8]) -> JoinedAnswer
+    ensures { FlatJoined (merge_call format a.now b.now (length out.old)) out.old out.new result }
+{
+    level_two::amrwb_merge(format, a, b, out)
 }
 
 #[unsafe(no_mangle)]

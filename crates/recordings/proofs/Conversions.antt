@@ -31,11 +31,11 @@ number-below if2 = omega arith
 number-below storage = omega arith
 
 -- what `format_numbered` says of n
-abbrev Named : ℕ → Outcome Format → Type 0
+abbrev pub Named : ℕ → Outcome Format → Type 0
 Named n (refused m) = (m ≡ 11) × ((f : Format) → n ≢ format_number f)
 Named n (ok f) = n ≡ format_number f
 
-named : (n : ℕ) → Named n (format_numbered n)
+pub named : (n : ℕ) → Named n (format_numbered n)
 named zero = (refl, (λ f e. omega (arith, number-above f, e)))
 named (suc zero) = refl
 named (suc (suc zero)) = refl

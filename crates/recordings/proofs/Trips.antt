@@ -50,7 +50,7 @@ format_numbered_lem if1 = refl
 format_numbered_lem if2 = refl
 format_numbered_lem storage = refl
 
-same-number : (f g : Format) → format_number f ≡ format_number g → f ≡ g
+pub same-number : (f g : Format) → format_number f ≡ format_number g → f ≡ g
 same-number f g e =
     let p : ok f ≡ ok g = sym (format_numbered_lem f) ∙ ap format_numbered e ∙ format_numbered_lem g in
     cc

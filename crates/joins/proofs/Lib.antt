@@ -1,0 +1,4 @@
+mod BodyLaws
+mod SlotLaws
+mod ReadLaws
+mod CallLaws

@@ -1,0 +1,5 @@
+pub mod Joining
+pub mod Slots
+pub mod Merges
+pub mod Agreement
+mod WrongMerges
