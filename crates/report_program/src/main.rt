@@ -10,6 +10,7 @@ use report::REPORT_LIMIT;
 use std::io;
 use std::io::Read;
 use std::process::ExitCode;
+use text::TEXT_ROOM;
 
 // One octet more than a report may have, so that a longer input is seen to be longer.
 const ROOM: usize = REPORT_LIMIT + 1;
@@ -38,7 +39,9 @@ fn main(rt: HostRuntime) -> ExitCode {
         let _ = eprintln!(rt; "report: standard input cannot be read");
         return ExitCode::FAILURE;
     };
-    if rt.print(text::report_text(&buf[..n])).is_err() {
+    let mut out = [0u8; TEXT_ROOM];
+    let k = text::report_text(&buf[..n], &mut out);
+    if rt.write_all(&out[..k]).is_err() {
         let _ = eprintln!(rt; "report: standard output cannot be written");
         return ExitCode::FAILURE;
     }
