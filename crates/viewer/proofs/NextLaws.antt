@@ -60,21 +60,23 @@ module _ (s : List ℕ) (offset : ℕ) (f : Format) (x : FrameHeader) (m : ℕ)
 
 -- ---- the core put into a buffer
 
--- the end and a refusal are handed on
-module _ (format offset number : ℕ) (s d : List ℕ) where
-  handed_on : (a : Result Shown RefusedAt) → Nexts format offset number s a → (w : Placed View) → view_of (core_in_recording format offset s) a ≡ w
-      → view_of (buffer_core d) a ≡ w → and_then_at w (into_room (length d)) ≡ w → view_after w d ≡ d
-      → ViewsInto (view_call format offset number s (length d)) (number, offset) d d a
-  unfolding view_call
-  handed_on a v w e e' i u =
-      let is : and_then_at (next_call format offset number s) (into_room (length d)) ≡ w = ap (λ o. and_then_at o (into_room (length d))) (sym v.answer ∙ e) ∙ i in
-      record { views = viewed _ _ _ _ (e' ∙ sym is); buffer = sym (ap (λ o. view_after o d) is ∙ u) }
+-- what shows no frame, the end or a refusal, is handed on
+pub handed_on : (core : ℕ → List Bool) (o : Placed View) (place : ℕ × ℕ) (room : ℕ) (d : List ℕ) (a : Result Shown RefusedAt)
+    → ((r : FrameHeader × Place) → a ≡ Ok (Some r) → ⊥) → Views core o place a → ViewsInto (and_then_at o (into_room room)) place d d a
+handed_on core o place room d (Ok (Some r)) none v = absurd (none r refl)
+handed_on core o place room d (Ok None) none v =
+    subst (λ o. ViewsInto (and_then_at o (into_room room)) place d d (Ok None)) v.answer (record { views = viewed _ _ _ _ refl; buffer = refl })
+handed_on core o place room d (Err e) none v =
+    subst (λ o. ViewsInto (and_then_at o (into_room room)) place d d (Err e)) v.answer (record { views = viewed _ _ _ _ refl; buffer = refl })
 
+module _ (format offset number : ℕ) (s d : List ℕ) where
   pub ended : Nexts format offset number s (Ok None) → ViewsInto (view_call format offset number s (length d)) (number, offset) d d (Ok None)
-  ended v = handed_on (Ok None) v (done end) refl refl refl refl
+  unfolding view_call
+  ended v = handed_on (core_in_recording format offset s) _ _ (length d) d (Ok None) (λ r e. cc) v
 
   pub refused_view : (e : RefusedAt) → Nexts format offset number s (Err e) → ViewsInto (view_call format offset number s (length d)) (number, offset) d d (Err e)
-  refused_view e v = handed_on (Err e) v (refused_at (number_of e.refusal) e.frame e.octet) refl refl refl refl
+  unfolding view_call
+  refused_view e v = handed_on (core_in_recording format offset s) _ _ (length d) d (Err e) (λ r h. cc) v
 
 -- a core that fits is that of the frame
 into_room_lem : (y : Frame) (room : ℕ) (z : Frame) (m : ℕ) → into_buffer y room ≡ ok (z, m) → (into_buffer y room ≡ ok (y, core_octets y.type)) × (z ≡ y)

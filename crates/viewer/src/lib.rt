@@ -3,7 +3,7 @@
 // `usize` and `u64` become each other by `as`, since they have no `From`: the check proves that nothing is lost.
 #![tactic(auto)]
 
-ghost use Rattle.std.specs.Prelude.{◌≡◌, ℕ, IfOk, length};
+ghost use Rattle.std.specs.Prelude.{◌≡◌, IfOk, length};
 ghost use Rattle.definitions.specs.Outcome.{ok};
 ghost use Rattle.definitions.specs.Reading.{format_numbered};
 ghost use Rattle.recordings.specs.Viewer.{open_call, view_call};
@@ -22,11 +22,11 @@ pub struct Place {
     pub offset: u64,
 }
 
-// A recording, its format, and the place of the next frame.
+// A recording, its format's number, and the place of the next frame.
 #[derive(Clone, Copy)]
 pub struct Viewer<'a> {
     pub rec: &'a [u8],
-    pub format: Format,
+    pub format: u64,
     pub place: Place,
 }
 
@@ -35,7 +35,7 @@ impl<'a> Viewer<'a> {
     #[tactic(auto, unfolding(recordings::specs::Viewer::open_call))]
     pub fn open(format: u64, rec: &'a [u8]) -> Result<Viewer<'a>, RefusedAt>
         ensures place { placed_of (λ v. number_and_offset v.place) result ≡ open_call format rec.now }
-        ensures over { IfOk result (λ v. (v.rec ≡ rec.entry) × (format_numbered format ≡ ok (format_of v.format))) }
+        ensures over { IfOk result (λ v. (v.rec ≡ rec.entry) × (v.format ≡ format) × ((f : Format) × (format_numbered format ≡ ok (format_of f)))) }
     {
         let f = Format::try_from(format)?;
         judge_front(f, LIMIT, rec)?;
@@ -43,21 +43,22 @@ impl<'a> Viewer<'a> {
             number: 0,
             offset: header_octets(f) as u64,
         };
-        Ok(Viewer::new(rec, f, first))
+        Ok(Viewer::new(rec, format, first))
     }
 
     // A viewer at a place.
-    pub fn new(rec: &'a [u8], format: Format, place: Place) -> Viewer<'a>
+    pub fn new(rec: &'a [u8], format: u64, place: Place) -> Viewer<'a>
         ensures { (result.rec ≡ rec.entry) × (result.format ≡ format) × (result.place ≡ place) }
     {
         Viewer { rec, format, place }
     }
 
-    // The next frame with the place behind it, or the end.
+    // The next frame with the place behind it, or the end. A number that is no format is refused here: `new` takes any.
     #[tactic(auto, using(crate::proofs::NextLaws::viewed), unfolding(recordings::specs::Viewer::next_call))]
     pub fn next(&self) -> Result<Option<(FrameHeader, Place)>, RefusedAt>
-        ensures { (n : ℕ) → format_numbered n ≡ ok (format_of self.now.format) → Nexts n self.now.place.offset self.now.place.number self.now.rec.now result }
+        ensures { Nexts self.now.format self.now.place.offset self.now.place.number self.now.rec.now result }
     {
+        let f = Format::try_from(self.format)?;
         let Place { number, offset } = self.place;
         let len = self.rec.len() as u64;
         if len < offset || offset < number {
@@ -66,7 +67,7 @@ impl<'a> Viewer<'a> {
         if offset == len {
             return Ok(None);
         }
-        let (h, n) = read_next(self.format, &self.rec[offset as usize..]).map_err(|refusal| {
+        let (h, n) = read_next(f, &self.rec[offset as usize..]).map_err(|refusal| {
             RefusedAt {
                 refusal,
                 frame: number,
@@ -89,7 +90,6 @@ impl<'a> Viewer<'a> {
 }
 
 // The next frame, for a caller that has no viewer.
-#[tactic(auto, using(crate::proofs::NextLaws::viewed), unfolding(recordings::specs::Viewer::next_call))]
 pub fn next_of(
     format: u64,
     place: Place,
@@ -97,7 +97,7 @@ pub fn next_of(
 ) -> Result<Option<(FrameHeader, Place)>, RefusedAt>
     ensures { Nexts format place.offset place.number rec.now result }
 {
-    Viewer::new(rec, Format::try_from(format)?, place).next()
+    Viewer::new(rec, format, place).next()
 }
 
 // Opens a recording: the place of its first frame, or the refusal. An entry.
@@ -117,7 +117,7 @@ pub fn view_next(
     ensures { ViewsInto (view_call format place.offset place.number rec.now (length core.old)) (number_and_offset place) core.old core.new result }
 {
     let f = Format::try_from(format)?;
-    let Some((h, behind)) = Viewer::new(rec, f, place).next()? else {
+    let Some((h, behind)) = next_of(format, place, rec)? else {
         return Ok(None);
     };
     core_out(f, &rec[place.offset as usize..], h, core)?;
