@@ -2,7 +2,7 @@
 use Rattle.std.specs.Prelude.{◌≡◌, Bool, true, false, cond, List, [], ◌∷◌, ◌++◌, map, ℕ, ◌-◌, length, get_or, take, drop, replicate}
 use Rattle.definitions.specs.Frames.{if1, core_bits, layout}
 use Rattle.definitions.specs.Reading.{read_call}
-use Rattle.definitions.specs.Order.{order_table, ordered, numbers_from}
+use Rattle.definitions.specs.Order.{order_table, codec_bit, ordered, numbers_from}
 use Rattle.definitions.specs.Cases.{Question, crc_octet, octets_of, first_octets, sources, one_frame, Answer, numbers, call, Case, case, bench_table}
 
 -- k codec bits of which s(n) alone is 1
@@ -39,3 +39,9 @@ printed (case q p) = p
 pub record BenchCases (a : Answerer) : Type 0 where
   pub thirteen : length bench_table ≡ 13
   pub each : map (answered a) bench_table ≡ map printed bench_table
+
+-- the cases of codec order of every row, and not only of rows with one bit 1
+pub record BenchRows : Type 0 where
+  pub mode3_d3 : (s : List Bool) → ordered_bit 3 s 3 ≡ codec_bit s 102
+  pub mode3_d284 : (s : List Bool) → ordered_bit 3 s 284 ≡ codec_bit s 278
+  pub mode4_d316 : (s : List Bool) → ordered_bit 4 s 316 ≡ codec_bit s 310

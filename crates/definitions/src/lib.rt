@@ -14,7 +14,7 @@ ghost use Rattle.definitions.specs.WrongBuilders.{WrongLayouts, WrongBuilders};
 ghost use Rattle.definitions.specs.WrongOrders.{WrongOrders};
 ghost use Rattle.definitions.specs.Reception.{frame_class, ClassifiesFrames, ClassesFixed};
 ghost use Rattle.definitions.specs.WrongClassifiers.{sti_at_34, sti_before_quality};
-ghost use Rattle.definitions.specs.Bench.{bench_answer, BenchCases};
+ghost use Rattle.definitions.specs.Bench.{bench_answer, BenchCases, BenchRows};
 ghost use Rattle.definitions.specs.WrongAnswerers.{mode_low_bit_first, crc_of_whole_octets, if2_header_stored, no_added_one};
 
 // Does nothing. Its contract: demand 2 for a frame that is read where more may follow, each refusal on its condition, and wrong
@@ -62,9 +62,9 @@ pub fn class_claim()
     ensures { ClassifiesFrames frame_class × ClassesFixed × (ClassifiesFrames sti_at_34 → ⊥) × (ClassifiesFrames sti_before_quality → ⊥) }
 {}
 
-// Does nothing. Its contract: document 01's bench cases that are marked P.
+// Does nothing. Its contract: document 01's bench cases that are marked P; those of codec order also of every row.
 pub fn bench_claim()
-    ensures { BenchCases bench_answer }
+    ensures { BenchCases bench_answer × BenchRows }
 {}
 
 // Does nothing. Its contract: a program that makes one of the errors met in the field fails the bench cases. One writes the mode of a SID frame
