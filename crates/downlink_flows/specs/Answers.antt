@@ -2,7 +2,6 @@
 use Rattle.std.specs.Prelude.{◌≡◌, Bool, List, ◌++◌, ℕ, ◌+◌, length, take, drop, Option, Some, None}
 use Rattle.bits.specs.Bits.{pack, octets_for}
 use Rattle.links.specs.declared.Combination.{Combination}
-use Rattle.links.specs.Answers.{fqc_number}
 use Rattle.links.specs.Calls as paper
 use Rattle.downlink_flows.specs.declared.Subflows.{Subflows}
 
@@ -31,7 +30,7 @@ forward_of (Some r) = paper.request r
 
 abbrev pub subflows_of : Subflows → Numbers
 subflows_of s = record {
-  fqc = fqc_number s.fqc;
+  fqc = s.fqc;
   rfci = s.rfci;
   octets1 = s.octets1;
   octets2 = s.octets2;

@@ -6,17 +6,16 @@ ghost use Rattle.std.specs.Prelude.{◌≡◌, Bool, true, cond, List, ◌++◌,
 ghost use Rattle.bits.specs.Bits.{bits, pack, octets_for};
 ghost use Rattle.frame.specs.Answers.{frame_with};
 ghost use Rattle.links.specs.declared.Link.{Link};
-ghost use Rattle.links.specs.Answers.{fqc_number};
 ghost use Rattle.links.specs.Calls.{nothing, request, forwards, split, roomy};
 ghost use Rattle.downlink_flows.specs.Answers.{forward_of, subflows_of, numbers, SubflowsPut};
 
 use frame::{FrameHeader, SID};
-use links::{Combination, Fqc};
+use links::Combination;
 
 // What Down says of a frame: FQC, RFCI, the octets of each sub-flow, and the request that is forwarded, if one is.
 #[derive(Clone, Copy, Default)]
 pub struct Subflows {
-    pub fqc: Fqc,
+    pub fqc: u8,
     pub rfci: u8,
     pub octets1: usize,
     pub octets2: usize,
@@ -38,11 +37,11 @@ pub fn is_roomy(c: Combination, n1: usize, n2: usize, n3: usize) -> bool
     octets_for(c.size1) <= n1 && octets_for(c.size2) <= n2 && octets_for(c.size3) <= n3
 }
 
-// FQC of a quality.
-fn fqc_of(quality: u8) -> Fqc
-    ensures { fqc_number result ≡ cond (eqb quality 1) 0 1 }
+// FQC of a quality: 0 good, 1 bad.
+fn fqc_of(quality: u8) -> u8
+    ensures { result ≡ cond (eqb quality 1) 0 1 }
 {
-    if quality == 1 { Fqc::Good } else { Fqc::Bad }
+    if quality == 1 { 0 } else { 1 }
 }
 
 // Puts the bits of `frame` from index `from` on into the front of a sub-flow's buffer. Most third sub-flows have no bits.
