@@ -2,17 +2,18 @@
 -- the table says. Assumes nothing.
 use mathlib.Core.Path.{◌≡◌, refl, sym, ap, ap₂, ◌∙◌}
 use mathlib.Core.Bool.{Bool, true, false}
-use mathlib.Core.List.{List, [], ◌∷◌, ◌++◌, append-nil}
+use mathlib.Core.List.{List, [], ◌∷◌, ◌++◌}
 use mathlib.Core.Logic.{⊎_elim}
-use Prim.Native.Nat.{ℕ, zero, suc, min, ◌+◌, ◌-◌, ◌*◌, ◌%◌, ◌^◌, ◌≤◌, ◌<◌}
+use Prim.Native.Nat.{ℕ, zero, suc, ◌+◌, ◌-◌, ◌*◌, ◌%◌, ◌^◌, ◌≤◌, ◌<◌, ◌/◌}
 use native.Mathlib.Nat.{add-zero, mul_assoc, mul_comm, mod-eq_of_lt, pow-succ'}
 use native.Mathlib.Omega.{arith}
 use lib.Dec.{eqb, leb}
-use lib.ListN.{length, get_or, set, take, drop, length-append, length-drop, length-map, length-set, get_or-append, get_or-eq_default, drop_of_length-le}
+use lib.ListN.{length, get_or, set, take, drop, length-append, length-drop, length-map, length-set, get_or-append, get_or-eq_default}
 use lib.Pow.{pow_mono}
-use lib.Seq.{ext_get_or, drop-cons, drop-drop, take_all, take_at, drop_at, get_or-drop, get_or-set_same, get_or-set_other, get_or-append-add, set_at, append_snoc}
+use lib.Seq.{ext_get_or, drop-cons, drop-drop, get_or-drop, get_or-set_same, get_or-set_other, get_or-append-add, set_at, append_snoc}
 use mir.Val.{bool_byte}
-use Rattle.std.proofs.lemmas.List.{take-map, drop-map, nil_from_length}
+use Rattle.std.proofs.lemmas.List.{take-map, drop-map, length-take-le, get_or-take}
+use Rattle.std.specs.Simd.{first_chunks}
 use borrow.Author.Tests.{leb-true}
 use Rattle.bits.specs.Bits.{one_if, num, packs, pack, octets_for}
 use Rattle.std.proofs.lemmas.Bool.{cases_lt}
@@ -102,97 +103,66 @@ core_more l core₀ core j v e h w =
     ∙ ap (λ p. p ++ drop (suc j) core₀) (sym (packs-snoc j l))
     ∙ ap (λ n. packs n l ++ drop n core₀) s
 
--- a part of the table is the next n entries, of which the last part may have fewer
-part_is : (n : ℕ) (all part rest : List ℕ) → all ≡ part ++ rest → length part ≡ min n (length all) → (part ≡ take n all) × (rest ≡ drop n all)
-part_is n all part rest e l =
-    ⊎_elim
-    (λ (h : length all < n).
-    let z : length rest ≡ 0 = omega (arith, ap length e, length-append part rest) in
-    let r : rest ≡ [] = nil_from_length rest z in
-    let w : all ≡ part = e ∙ ap (λ r. part ++ r) r ∙ append-nil part in
-    (sym w ∙ sym (take_all n all (omega arith)), r ∙ sym (drop_of_length-le all (omega arith))))
-    (λ (h : n ≤ length all).
-    let m : length part ≡ n = omega arith in
-    (sym (ap (take n) e ∙ take_at part rest n m), sym (ap (drop n) e ∙ drop_at part rest n m)))
-    (cases_lt (length all) n)
-
--- the parts in front of j are packed
-pub record Packed (table row core₀ core rest : List ℕ) (size j : ℕ) : Type 0 where
-  pub eight : size ≡ 8
-  pub ahead : rest ≡ drop (8 * j) table
-  pub within : 8 * j < length table + 8
-  pub so_far : core ≡ packs j (ordered table (row_bits row)) ++ drop j core₀
-
-pub packed_none : (table row core rest : List ℕ) (size j : ℕ) → rest ≡ table → size ≡ 8 → j ≡ 0 → Packed table row core core rest size j
-packed_none table row core rest size j e n z = record {
-  eight = n;
-  ahead = e ∙ ap (λ i. drop (8 * i) table) (sym z);
-  within = omega arith;
-  so_far = core-none (ordered table (row_bits row)) core ∙ ap (λ i. packs i (ordered table (row_bits row)) ++ drop i core) (sym z);
-}
-
-module _ {table row core₀ core rest : List ℕ} {size j : ℕ} (p : Packed table row core₀ core rest size j) (part rest' : List ℕ)
-    (e : rest ≡ part ++ rest') (m : length part ≡ min size (length rest)) (some : 0 < length rest) where
-  -- the part that is taken from what is left
-  record Taken : Type 0 where
-    pub front : part ≡ take 8 (drop (8 * j) table)
-    pub behind : rest' ≡ drop (8 * (j + 1)) table
-    pub some-left : 8 * j < length table
-    pub long : length part ≡ min 8 (length table - 8 * j)
-
-  taken : Taken
-  taken =
-      let l : length rest ≡ length table - 8 * j = ap length p.ahead ∙ length-drop (8 * j) table in
-      let s : length part ≡ min 8 (length table - 8 * j) = m ∙ ap₂ min p.eight l in
-      let t = part_is 8 rest part rest' e (m ∙ ap (λ n. min n (length rest)) p.eight) in
-      record {
-        front = t.0 ∙ ap (take 8) p.ahead;
-        behind = t.1 ∙ ap (drop 8) p.ahead ∙ drop-drop 8 (8 * j) table ∙ ap (λ n. drop n table) (let q : 8 * j + 8 ≡ 8 * (j + 1) = omega arith in q);
-        some-left = omega arith;
-        long = s;
-      }
-
-  part_short : length part ≤ 8
-  part_short = omega (arith, taken.long)
-
-  -- its bits, shifted up where they are fewer than 8
-  part_octet : (v : ℕ) → v ≡ num (length part) (ordered part (row_bits row)) → v * 2 ^ (8 - length part) % 256 ≡ num 8 (drop (8 * j) (ordered table (row_bits row)))
-  unfolding ordered
-  part_octet v h =
-      let s = row_bits row in
-      let l = ordered part s in
-      let o : num (length part) (ordered part (row_bits row)) * 2 ^ (8 - length part) ≡ num 8 (ordered part (row_bits row)) =
-      sym (num_short (length part) (8 - length part) l (omega (arith, length-ordered part s)))
-      ∙ ap (λ k. num k l) (let q : length part + (8 - length part) ≡ 8 = omega (arith, part_short) in q) in
-      let d : ordered part (row_bits row) ≡ take 8 (drop (8 * j) (ordered table (row_bits row))) =
-      ap (λ t. ordered t s) taken.front ∙ sym (take-map (λ n. codec_bit s (n + 1)) 8 (drop (8 * j) table))
-      ∙ ap (take 8) (sym (drop-map (λ n. codec_bit s (n + 1)) (8 * j) table)) in
-      ap (λ v. v * 2 ^ (8 - length part) % 256) h ∙ ap (λ k. k % 256) o ∙ mod-eq_of_lt (num-lt 8 l)
-      ∙ ap (num 8) d ∙ num-take 8 8 (drop (8 * j) (ordered table s)) (omega arith)
-
-  pub packed_more : (room : octets_for (length table) ≤ length core₀) (v i size' j' : ℕ) → v ≡ num (length part) (ordered part (row_bits row)) → i ≡ j → size' ≡ size → j' ≡ j + 1
-      → Packed table row core₀ (set core i (v * 2 ^ (8 - length part) % 256)) rest' size' j'
-  packed_more room v i size' j' h ei en ej = record {
-    eight = en ∙ p.eight;
-    ahead = taken.behind ∙ ap (λ j. drop (8 * j) table) (sym ej);
-    within = omega (arith, taken.some-left);
-    so_far =
-        ap (λ i. set core i (v * 2 ^ (8 - length part) % 256)) ei
-        ∙ core_more (ordered table (row_bits row)) core₀ core j _ p.so_far (omega (arith, taken.some-left)) (part_octet v h)
-        ∙ ap (λ j. packs j (ordered table (row_bits row)) ++ drop j core₀) (sym ej);
-  }
+-- the bits behind the last whole octet, shifted up
+pub last_octet : (l : List Bool) (w left v : ℕ) → length l ≡ 8 * w + left → left < 8 → v ≡ num left (drop (8 * w) l)
+    → v * 2 ^ (8 - left) % 256 ≡ num 8 (drop (8 * w) l)
+last_octet l w left v n h e =
+    let d = drop (8 * w) l in
+    let s : num left d * 2 ^ (8 - left) ≡ num 8 d =
+    sym (num_short left (8 - left) d (omega (arith, length-drop (8 * w) l))) ∙ ap (λ k. num k d) (let q : left + (8 - left) ≡ 8 = omega arith in q) in
+    ap (λ v. v * 2 ^ (8 - left) % 256) e ∙ ap (λ k. k % 256) s ∙ mod-eq_of_lt (num-lt 8 d)
 
 pub core-whole : (l : List Bool) (core₀ : List ℕ) (m : ℕ) → m ≡ octets_for (length l) → packs m l ++ drop m core₀ ≡ overwritten (pack l) core₀
 unfolding pack
 core-whole l core₀ m e =
     ap (λ n. packs n l ++ drop n core₀) e ∙ ap (λ n. packs (octets_for (length l)) l ++ drop n core₀) (sym (length-packs (octets_for (length l)) l))
 
--- no part is left
-pub packed_whole : {table row core₀ core rest : List ℕ} {size j : ℕ} → Packed table row core₀ core rest size j → length rest ≡ 0
-    → core ≡ overwritten (pack (ordered table (row_bits row))) core₀
-packed_whole {table} {row} {core₀} {core} {rest} {size} {j} p h =
-    let n = length-ordered table (row_bits row) in
-    p.so_far ∙ core-whole (ordered table (row_bits row)) core₀ j (omega (arith, ap length p.ahead, length-drop (8 * j) table, n, p.within))
+-- ---- a table in parts of eight numbers, and the rest
+
+-- part j begins at number 8 * j
+get_or-eights : (k j : ℕ) (table : List ℕ) → j < k → get_or (first_chunks 8 k table) j [] ≡ take 8 (drop (8 * j) table)
+get_or-eights zero j table h = absurd (omega arith)
+get_or-eights (suc k) zero table h = refl
+get_or-eights (suc k) (suc j) table h =
+    get_or-eights k j (drop 8 table) (omega arith)
+    ∙ ap (take 8) (drop-drop (8 * j) 8 table ∙ ap (λ n. drop n table) (let e : 8 + 8 * j ≡ 8 * suc j = omega arith in e))
+
+module _ (table : List ℕ) (parts : List (List ℕ)) (front : parts ≡ first_chunks 8 (length table / 8) table) (j : ℕ) (h : j < length table / 8) where
+  abbrev part : List ℕ
+  part = get_or parts j []
+
+  part-is : part ≡ take 8 (drop (8 * j) table)
+  part-is = ap (λ ps. get_or ps j []) front ∙ get_or-eights (length table / 8) j table h
+
+  pub length-part : length part ≡ 8
+  length-part = ap length part-is ∙ length-take-le 8 (drop (8 * j) table) (omega (arith, length-drop (8 * j) table))
+
+  pub part_below : (k : ℕ) → Permutes k table → (i : ℕ) → i < length part → get_or part i 0 < k
+  part_below k p i l =
+      let m = length-part in
+      let e : get_or part i 0 ≡ get_or table (8 * j + i) 0 =
+      ap (λ t. get_or t i 0) part-is ∙ get_or-take 8 (drop (8 * j) table) i 0 (omega arith) ∙ get_or-drop (8 * j) table i 0 in
+      omega (arith, e, p.below (8 * j + i) (omega (arith, p.whole)))
+
+  -- the bits that it names are octet j of the core
+  pub part_octet : (s : List Bool) (v : ℕ) → v ≡ num (length part) (ordered part s) → v ≡ num 8 (drop (8 * j) (ordered table s))
+  unfolding ordered
+  part_octet s v e =
+      let f : ℕ → Bool = λ n. codec_bit s (n + 1) in
+      e ∙ ap (λ n. num n (ordered part s)) length-part ∙ ap (λ t. num 8 (ordered t s)) part-is
+      ∙ ap (num 8) (sym (take-map f 8 (drop (8 * j) table)) ∙ ap (take 8) (sym (drop-map f (8 * j) table)))
+      ∙ num-take 8 8 (drop (8 * j) (ordered table s)) (omega arith)
+
+-- the bits that the rest names, shifted up, are the octet behind the w whole ones
+pub rest_octet : (table rest : List ℕ) (s : List Bool) (w v : ℕ) → rest ≡ drop (length table / 8 * 8) table → length rest ≡ length table % 8 → w ≡ length table / 8
+    → v ≡ num (length rest) (ordered rest s) → v * 2 ^ (8 - length rest) % 256 ≡ num 8 (drop (8 * w) (ordered table s))
+unfolding ordered
+rest_octet table rest s w v back left whole e =
+    let f : ℕ → Bool = λ n. codec_bit s (n + 1) in
+    let q : length table / 8 * 8 ≡ 8 * w = omega arith in
+    let d : ordered rest s ≡ drop (8 * w) (ordered table s) =
+    ap (λ t. ordered t s) (back ∙ ap (λ n. drop n table) q) ∙ sym (drop-map f (8 * w) table) in
+    last_octet (ordered table s) w (length rest) v (omega (arith, length-ordered table s)) (omega arith) (e ∙ ap (num (length rest)) d)
 
 -- ---- the row, bit by bit
 

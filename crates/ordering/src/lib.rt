@@ -39,8 +39,13 @@ pub fn core_by(table: &[u16], row: &[u8], core: &mut [u8])
     requires { Permutes (length row.now) table.now × (zero_or_one row.now ≡ true) × (octets_for (length table.now) ≤ length core.old) }
     ensures { core.new ≡ overwritten (pack (ordered table.now (row_bits row.now))) core.old }
 {
-    for (j, part) in table.chunks(8).enumerate() {
-        core[j] = gather(part, row) << (8 - part.len());
+    // Over arrays of eight numbers the compiler unrolls the loop of `gather`.
+    let (parts, rest) = table.as_chunks::<8>();
+    for (j, part) in parts.iter().enumerate() {
+        core[j] = gather(part, row);
+    }
+    if !rest.is_empty() {
+        core[parts.len()] = gather(rest, row) << (8 - rest.len());
     }
 }
 
