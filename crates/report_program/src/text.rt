@@ -13,7 +13,7 @@ ghost use Rattle.report_program.specs.Text.{line, report_text};
 use frame::Refusal;
 use report::{Report, report_recording};
 
-// The octets that the text has room in.
+// How many octets a buffer for the text has.
 pub const TEXT_ROOM: usize = 256;
 
 // Puts `s` behind the first `at` octets of the text.
