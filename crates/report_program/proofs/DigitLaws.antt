@@ -1,11 +1,14 @@
--- A number's digits in decimal: its last one stands behind those of its tenth part. A number of 64 bits has at most 20. Assumes nothing.
-use mathlib.Core.Path.{◌≡◌, ap, ◌∙◌}
+-- A number's digits in decimal: its last one stands behind those of its tenth part. A number of 64 bits has at most 20, and `{}` prints them. Assumes
+-- nothing.
+use mathlib.Core.Path.{◌≡◌, sym, ap, ◌∙◌}
 use mathlib.Core.List.{[], ◌∷◌, ◌++◌}
 use Prim.Native.Nat.{ℕ, zero, suc, ◌+◌, ◌/◌, ◌%◌, ◌^◌, ◌<◌, ◌≤◌}
 use native.Mathlib.Nat.{pow-suc, div-lt_iff_lt-mul}
 use native.Mathlib.Omega.{arith}
 use lib.ListN.{length, length-append}
 use borrow.Author.Tests.{lt-ltb, le-ltb}
+use Rattle.std.specs.Fmt as printed
+use Rattle.std.proofs.lemmas.Fmt as library
 use Rattle.std.proofs.lemmas.Bool.{cases_lt}
 use Rattle.std.proofs.Common.{inl, inr}
 use Rattle.definitions.specs.Decimal.{digits_up_to, decimal}
@@ -43,3 +46,18 @@ few-digits (suc few) (suc most) n h = elim (cases_lt n 10) [
 pub decimal_few : (n : ℕ) → n < 2 ^ 64 → length (decimal n) ≤ 20
 unfolding decimal
 decimal_few n h = few-digits 19 (suc n) n (omega arith)
+
+-- ---- what `{}` prints of a number
+
+digits-up_to : (most n : ℕ) → n < most → n < 2 ^ 64 → printed.decimal n ≡ digits_up_to most n
+digits-up_to zero n h f = absurd (omega arith)
+digits-up_to (suc most) n h f = elim (cases_lt n 10) [
+  | inl small ↦ library.decimal_digit n small ∙ sym (rw (lt-ltb n 10 small))
+  | inr large ↦
+      let tenth = digits-up_to most (n / 10) (omega arith) (omega arith) in
+      library.decimal_step n large f ∙ ap (λ ds. ds ++ ((48 + n % 10) ∷ [])) tenth ∙ sym (rw (le-ltb n 10 large))
+]
+
+pub decimal_printed : (n : ℕ) → n < 2 ^ 64 → printed.decimal n ≡ decimal n
+unfolding decimal
+decimal_printed n f = digits-up_to (suc n) n (omega arith) f

@@ -3,6 +3,7 @@
 #![tactic(auto)]
 
 ghost use Rattle.std.specs.Prelude.{◌≡◌, ◌++◌, ◌+◌, ◌≤◌, length, take};
+ghost use Rattle.std.specs.Fmt as printed;
 ghost use Rattle.definitions.specs.Decimal.{decimal};
 ghost use Rattle.recordings.specs.Placed.{refused_at, done};
 ghost use Rattle.recordings.specs.Report.{report_call};
@@ -26,12 +27,12 @@ fn put(s: &[u8], out: &mut [u8], at: usize) -> usize
     end
 }
 
-// Puts a number in decimal behind the first `at` octets of the text: the digits of its tenth part, and its last digit. It calls itself at most 19
-// times.
-#[tactic(auto, using(crate::proofs::DigitLaws::decimal_digit, crate::proofs::DigitLaws::decimal_longer))]
+// Puts a number in decimal behind the first `at` octets of the text, as `{}` prints it: the digits of its tenth part, and its last digit. It calls
+// itself at most 19 times.
+#[tactic(auto, using(crate::proofs::DigitLaws::decimal_digit, crate::proofs::DigitLaws::decimal_longer, crate::proofs::DigitLaws::decimal_printed))]
 fn put_number(n: u64, out: &mut [u8], at: usize) -> usize
     requires { at + length (decimal n) ≤ length out.old }
-    ensures { (result ≡ at + length (decimal n)) × (take result out.new ≡ take at out.old ++ decimal n) }
+    ensures { (result ≡ at + length (decimal n)) × (take result out.new ≡ take at out.old ++ decimal n) × (take result out.new ≡ take at out.old ++ printed.decimal n) }
 {
     if n < 10 {
         return put(&[b'0' + n as u8], out, at);
